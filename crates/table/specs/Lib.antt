@@ -1,2 +1,4 @@
 pub mod Blank
 pub mod Content
+pub mod Format
+pub mod Reading

@@ -2,6 +2,8 @@
 mod fault;
 mod flow;
 mod model;
+mod reading;
+mod record;
 
 pub use fault::Fault;
 pub use fault::FaultDebug;

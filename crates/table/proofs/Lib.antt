@@ -1,0 +1,4 @@
+mod Splits
+mod Prefixes
+mod Same
+mod Unique

@@ -1,0 +1,64 @@
+// Reading a table file.
+ghost use mathlib.Core.Path.{_≡_};
+ghost use Prim.Native.Nat.{_+_, _≤_};
+ghost use lib.ListN.{length};
+ghost use Rattle.std.specs.declared.result.Result.{Result};
+ghost use Rattle.table.specs.declared.fault.Fault.{Fault};
+ghost use Rattle.table.specs.declared.model.Table.{Table};
+ghost use Rattle.table.specs.declared.record.Kind.the-variants.{End};
+ghost use Rattle.table.specs.Content.{content};
+ghost use Rattle.table.specs.Reading.{Answers, Whole, Ended};
+use crate::fault::Fault;
+use crate::model::Table;
+use crate::record::Kind;
+use crate::record::dimensions_of;
+use crate::record::flow_of;
+use crate::record::inspect;
+use crate::record::refused;
+use crate::record::word;
+
+// The table as it is, where the end record at the front of `rest` has its count and nothing follows.
+fn finish(table: Table, rest: &[u8], at: usize) -> Result<Table, Fault>
+    requires whole { ⌜ Whole at (now rest) End ⌝ }
+    requires fits { ⌜ at ≤ 1000 ⌝ }
+    ensures { λ r. ⌜ Ended table at (now (rest .entry)) r ⌝ }
+{
+    if word(rest, 4) as usize != table.flows().len() {
+        return Err(refused(5, at));
+    }
+    if rest.len() > 6 {
+        return Err(refused(6, at + 6));
+    }
+    Ok(table)
+}
+
+// Record by record, up to the first that is not as it should be.
+fn scan(bytes: &[u8]) -> Result<Table, Fault>
+    ensures { λ r. ⌜ Answers (now (bytes .entry)) r ⌝ }
+{
+    let _ = inspect(bytes, 0)?;
+    let mut table = Table::new(dimensions_of(bytes));
+    loop {
+        let at = 8 + 12 * table.flows().len();
+        let rest = &bytes[at..];
+        match inspect(rest, at)? {
+            Kind::Head => return Err(refused(2, at)),
+            Kind::Flow => {
+                if let Err(_) = table.add(flow_of(rest)) {
+                    return Err(refused(4, at));
+                }
+            }
+            Kind::End => return finish(table, rest, at),
+        }
+    }
+}
+
+impl Table {
+    // The table whose file the bytes are, or the fault of the first record that is not as it should be.
+    pub fn read(bytes: &[u8]) -> Result<Table, Fault>
+        ensures answer { λ r. ⌜ Answers (now (bytes .entry)) r ⌝ }
+        ensures alone { λ r. ⌜ ((s : Result Table Fault) → Answers (now (bytes .entry)) s → s ≡ r) ⌝ }
+    {
+        scan(bytes)
+    }
+}
