@@ -2,3 +2,5 @@ mod Splits
 mod Prefixes
 mod Same
 mod Unique
+mod Places
+mod Laws

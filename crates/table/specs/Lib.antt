@@ -2,3 +2,4 @@ pub mod Blank
 pub mod Content
 pub mod Format
 pub mod Reading
+pub mod Writing

@@ -4,6 +4,7 @@ mod flow;
 mod model;
 mod reading;
 mod record;
+mod writing;
 
 pub use fault::Fault;
 pub use fault::FaultDebug;

@@ -1,5 +1,10 @@
+use Rattle.table.proofs.Laws.{writes-back}
 use Rattle.table.proofs.Unique.{unique}
 use Rattle.table.proofs.model.Table.read.Needs as need
 
 pub returns : need.returns
-returns c = record { answer = c .scan .ensures; alone = λ s a. unique (c .args .bytes .now) s (c .scan .result) a (c .scan .ensures) }
+returns c =
+    let bs = c .args .bytes .now in
+    let r = c .scan .result in
+    let a = c .scan .ensures in
+    record { answer = a; alone = λ s b. unique bs s r b a; back = writes-back bs r a }

@@ -1,0 +1,9 @@
+use Rattle.table.proofs.Laws.{own-file, reads-back}
+use Rattle.table.proofs.model.Table.write.Needs as need
+
+pub returns : need.returns
+returns c = record {
+  wrote = c .write-file .ensures;
+  own = own-file (c .args .self .now);
+  back = reads-back (c .args .self .now) (c .args .place .now) (c .write-file .last .place) (c .write-file .result) (c .write-file .ensures);
+}
