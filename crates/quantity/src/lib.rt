@@ -49,7 +49,7 @@ impl Frame {
     pub fn in_units(self) -> Units
         ensures { λ r. ⌜ r .0 ≡ self .0 ⌝ }
     {
-        Units(self.0 as u32)
+        Packets(1).in_units(self)
     }
 }
 

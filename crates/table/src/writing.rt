@@ -73,25 +73,16 @@ fn put_flows(place: &mut [u8], flows: &[Flow])
     }
 }
 
-impl Table {
-    // How many bytes the table's file has.
-    pub fn file_length(&self) -> usize
-        ensures { λ r. ⌜ r ≡ length (fileOf (now (self .entry))) ⌝ }
-    {
-        14 + 12 * self.flows().len()
-    }
-
-    // Writes the table's file to the front of the place, and answers its length.
-    pub fn write(&self, place: &mut [u8]) -> Result<usize, Fault>
-        ensures wrote { λ r. ⌜ Wrote (now (self .entry)) (now (place .entry)) (now (place .exit)) r ⌝ }
-        ensures own { λ _. ⌜ Own-file (now (self .entry)) ⌝ }
-        ensures back { λ r. ⌜ Reads-back (now (self .entry)) (now (place .exit)) r ⌝ }
-    {
-        write_file(self, place)
-    }
+// The bytes of a head, so many flows and an end.
+fn length_for(flows: usize) -> usize
+    requires { ⌜ flows ≤ 64 ⌝ }
+    ensures { λ r. ⌜ r ≡ 14 + 12 * flows ⌝ }
+{
+    14 + 12 * flows
 }
 
-fn write_file(table: &Table, place: &mut [u8]) -> Result<usize, Fault>
+// The whole file, where the place is long enough.
+fn put_file(table: &Table, place: &mut [u8]) -> Result<usize, Fault>
     ensures { λ r. ⌜ Wrote (now (table .entry)) (now (place .entry)) (now (place .exit)) r ⌝ }
 {
     let size = table.file_length();
@@ -107,4 +98,22 @@ fn write_file(table: &Table, place: &mut [u8]) -> Result<usize, Fault>
     put_flows(place, flows);
     put(place, size - 6, &end_record(flows.len() as u16));
     Ok(size)
+}
+
+impl Table {
+    // How many bytes the table's file has.
+    pub fn file_length(&self) -> usize
+        ensures { λ r. ⌜ r ≡ length (fileOf (now (self .entry))) ⌝ }
+    {
+        length_for(self.flows().len())
+    }
+
+    // Writes the table's file to the front of the place, and answers its length.
+    pub fn write(&self, place: &mut [u8]) -> Result<usize, Fault>
+        ensures wrote { λ r. ⌜ Wrote (now (self .entry)) (now (place .entry)) (now (place .exit)) r ⌝ }
+        ensures own { λ _. ⌜ Own-file (now (self .entry)) ⌝ }
+        ensures back { λ r. ⌜ Reads-back (now (self .entry)) (now (place .exit)) r ⌝ }
+    {
+        put_file(self, place)
+    }
 }

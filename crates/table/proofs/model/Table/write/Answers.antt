@@ -3,7 +3,7 @@ use Rattle.table.proofs.model.Table.write.Needs as need
 
 pub returns : need.returns
 returns c = record {
-  wrote = c .write-file .ensures;
+  wrote = c .put-file .ensures;
   own = own-file (c .args .self .now);
-  back = reads-back (c .args .self .now) (c .args .place .now) (c .write-file .last .place) (c .write-file .result) (c .write-file .ensures);
+  back = reads-back (c .args .self .now) (c .args .place .now) (c .put-file .last .place) (c .put-file .result) (c .put-file .ensures);
 }

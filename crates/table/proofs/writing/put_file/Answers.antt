@@ -4,7 +4,7 @@ use native.Mathlib.Omega.{arith}
 use lib.ListN.{length}
 use Rattle.table.specs.Content.{content}
 use Rattle.table.proofs.Places.{length-encode, put-all}
-use Rattle.table.proofs.writing.write_file.Needs as need
+use Rattle.table.proofs.writing.put_file.Needs as need
 
 pub put-flows-requires : need.put-flows-requires
 put-flows-requires c κs =
