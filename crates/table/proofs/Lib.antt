@@ -4,3 +4,4 @@ mod Same
 mod Unique
 mod Places
 mod Laws
+mod Longer

@@ -73,6 +73,10 @@ abbrev pub Answers : List ℕ → Result Table Fault → Type 0
 Answers bs (Ok t) = bs ≡ encode (content t)
 Answers bs (Err f) = Refused bs f
 
+-- 1024 bytes settle the answer, whatever follows them
+abbrev pub Settled : List ℕ → Result Table Fault → Type 0
+Settled bs r = (more : List ℕ) → 1024 ≤ length bs → Answers (bs ++ more) r
+
 -- how a header's inspection ends: the record's kind, or its fault
 abbrev pub Opened : ℕ → List ℕ → Result Kind Fault → Type 0
 Opened at q (Ok k) = Headed at q k

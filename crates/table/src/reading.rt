@@ -7,7 +7,7 @@ ghost use Rattle.table.specs.declared.fault.Fault.{Fault};
 ghost use Rattle.table.specs.declared.model.Table.{Table};
 ghost use Rattle.table.specs.declared.record.Kind.the-variants.{End};
 ghost use Rattle.table.specs.Content.{content};
-ghost use Rattle.table.specs.Reading.{Answers, Whole, Ended};
+ghost use Rattle.table.specs.Reading.{Answers, Whole, Ended, Settled};
 ghost use Rattle.table.specs.Writing.{Writes-back};
 use crate::fault::Fault;
 use crate::model::Table;
@@ -59,6 +59,7 @@ impl Table {
     pub fn read(bytes: &[u8]) -> Result<Table, Fault>
         ensures answer { λ r. ⌜ Answers (now (bytes .entry)) r ⌝ }
         ensures alone { λ r. ⌜ ((s : Result Table Fault) → Answers (now (bytes .entry)) s → s ≡ r) ⌝ }
+        ensures settled { λ r. ⌜ Settled (now (bytes .entry)) r ⌝ }
         ensures back { λ r. ⌜ Writes-back (now (bytes .entry)) r ⌝ }
     {
         scan(bytes)
