@@ -1,8 +1,10 @@
 // Lines of text about a table, and about a fault.
 mod lines;
+mod showing;
 
 pub use lines::refused_line;
 pub use lines::table_text;
+pub use showing::show;
 
 #[cfg(test)]
 mod tests {

@@ -30,7 +30,7 @@ pub struct Flow {
 }
 
 // What fills the entries of a table that hold no flow.
-pub const NO_FLOW: Flow = Flow {
+pub(crate) const NO_FLOW: Flow = Flow {
     source: (0, 0),
     destination: (0, 0),
     burst: Packets(0),

@@ -15,13 +15,13 @@ use quantity::Packets;
 use quantity::Rate;
 
 #[derive(Clone, Copy)]
-pub enum Kind {
+pub(crate) enum Kind {
     Head,
     Flow,
     End,
 }
 
-pub fn refused(number: u8, at: usize) -> Fault
+pub(crate) fn refused(number: u8, at: usize) -> Fault
     ensures { λ r. ⌜ r ≡ refusal number at ⌝ }
 {
     Fault {
@@ -32,7 +32,7 @@ pub fn refused(number: u8, at: usize) -> Fault
 }
 
 // The two-byte number at `at`.
-pub fn word(bytes: &[u8], at: usize) -> u16
+pub(crate) fn word(bytes: &[u8], at: usize) -> u16
     requires { ⌜ at + 2 ≤ length (now bytes) ⌝ }
     ensures { λ r. ⌜ r ≡ wordAt (now (bytes .entry)) at ⌝ }
 {
@@ -75,7 +75,7 @@ fn kind_of(rest: &[u8], at: usize) -> Result<Kind, Fault>
 }
 
 // The same of a record that is there to its end.
-pub fn inspect(rest: &[u8], at: usize) -> Result<Kind, Fault>
+pub(crate) fn inspect(rest: &[u8], at: usize) -> Result<Kind, Fault>
     ensures { λ r. ⌜ Inspected at (now (rest .entry)) r ⌝ }
 {
     let kind = kind_of(rest, at)?;
@@ -90,7 +90,7 @@ pub fn inspect(rest: &[u8], at: usize) -> Result<Kind, Fault>
 }
 
 // What the body of a head says.
-pub fn dimensions_of(rest: &[u8]) -> Dimensions
+pub(crate) fn dimensions_of(rest: &[u8]) -> Dimensions
     requires { ⌜ 8 ≤ length (now rest) ⌝ }
     ensures { λ r. ⌜ r ≡ dimensionsOf (now (rest .entry)) ⌝ }
 {
@@ -102,7 +102,7 @@ pub fn dimensions_of(rest: &[u8]) -> Dimensions
 }
 
 // What the body of a flow says.
-pub fn flow_of(rest: &[u8]) -> Flow
+pub(crate) fn flow_of(rest: &[u8]) -> Flow
     requires { ⌜ 12 ≤ length (now rest) ⌝ }
     ensures { λ r. ⌜ r ≡ flowOf (now (rest .entry)) ⌝ }
 {
