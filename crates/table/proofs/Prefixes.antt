@@ -16,7 +16,8 @@ use Rattle.table.specs.declared.fault.Fault.{Fault}
 use Rattle.table.specs.declared.model.Table.{Table}
 use Rattle.table.specs.Content.{Content, content, pushed}
 use Rattle.table.specs.Format.{headRecord, flowRecord, endRecord, front, encode}
-use Rattle.table.specs.Reading.{wordAt, refusal, Whole, Wrong, Refused, Answers, Ended, dimensionsOf, flowOf}
+use Rattle.table.specs.Reading.{wordAt, refusal, Whole, Wrong, Refused, Answers}
+use Rattle.table.specs.Inspecting.{Ended, dimensionsOf, flowOf}
 use Rattle.table.specs.Reading.Wrong.{excess}
 use Rattle.table.specs.Reading.Refused.{behind}
 use Rattle.table.proofs.Splits.{Bytes, drop-bytes, first-kind, head-split, flow-split, end-split}

@@ -11,7 +11,8 @@ use Rattle.std.specs.declared.option.Option.the-variants.{Some, None}
 use Rattle.table.specs.declared.record.Kind.{Kind}
 use Rattle.table.specs.declared.record.Kind.the-variants.{Head, Flow, End}
 use Rattle.table.specs.Format.{word, headRecord, flowRecord, endRecord}
-use Rattle.table.specs.Reading.{wordAt, dueAt, Whole, dimensionsOf, flowOf}
+use Rattle.table.specs.Reading.{wordAt, dueAt, Whole}
+use Rattle.table.specs.Inspecting.{dimensionsOf, flowOf}
 
 -- every element is a byte
 abbrev pub Bytes : List ℕ → Type 0

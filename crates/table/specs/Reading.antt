@@ -9,8 +9,6 @@ use Rattle.std.specs.declared.option.Option.{Option}
 use Rattle.std.specs.declared.option.Option.the-variants.{Some, None}
 use Rattle.std.specs.declared.result.Result.{Result}
 use Rattle.std.specs.declared.result.Result.the-variants.{Ok, Err}
-use Rattle.table.specs.declared.flow.Dimensions.{Dimensions}
-use Rattle.table.specs.declared.flow.Flow as flows
 use Rattle.table.specs.declared.model.Table.{Table}
 use Rattle.table.specs.declared.fault.Fault.{Fault}
 use Rattle.table.specs.declared.fault.Layer.the-variants.{File}
@@ -76,30 +74,3 @@ Answers bs (Err f) = Refused bs f
 -- 1024 bytes settle the answer, whatever follows them
 abbrev pub Settled : List ℕ → Result Table Fault → Type 0
 Settled bs r = (more : List ℕ) → 1024 ≤ length bs → Answers (bs ++ more) r
-
--- how a header's inspection ends: the record's kind, or its fault
-abbrev pub Opened : ℕ → List ℕ → Result Kind Fault → Type 0
-Opened at q (Ok k) = Headed at q k
-Opened at q (Err f) = Broken at q f
-
--- how a record's inspection ends: its kind, or its fault
-abbrev pub Inspected : ℕ → List ℕ → Result Kind Fault → Type 0
-Inspected at q (Ok k) = Whole at q k
-Inspected at q (Err f) = Broken at q f
-
--- how the inspection of the end of a table's file ends: the table, or the fault
-abbrev pub Ended : Table → ℕ → List ℕ → Result Table Fault → Type 0
-Ended t at q (Ok u) = (u ≡ t) × (wordAt q 4 ≡ length (content t .flows)) × (length q ≡ 6)
-Ended t at q (Err f) = Wrong (length (content t .flows)) at q f
-
--- what the bodies of a head and of a flow say
-abbrev pub dimensionsOf : List ℕ → Dimensions
-dimensionsOf q = record { side = getD q 4 0; depth = record { 0 = getD q 5 0 }; frame = record { 0 = wordAt q 6 } }
-
-abbrev pub flowOf : List ℕ → flows.Flow
-flowOf q = record {
-  source = (getD q 4 0, getD q 5 0);
-  destination = (getD q 6 0, getD q 7 0);
-  burst = record { 0 = wordAt q 8 };
-  rate = record { 0 = wordAt q 10 };
-}

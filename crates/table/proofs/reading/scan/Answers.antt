@@ -6,7 +6,8 @@ use Rattle.std.proofs.shelf.Lists.{length-push}
 use Rattle.std.proofs.shelf.Results.{err-from-errBy}
 use Rattle.table.specs.declared.record.Kind.the-variants.{Flow, End}
 use Rattle.table.specs.Content.{content, pushed}
-use Rattle.table.specs.Reading.{refusal, Broken, Whole, Ended, flowOf}
+use Rattle.table.specs.Reading.{refusal, Broken, Whole}
+use Rattle.table.specs.Inspecting.{Ended, flowOf}
 use Rattle.table.specs.Reading.Refused.{at-head}
 use Rattle.table.specs.Reading.Wrong.{broken}
 use Rattle.table.proofs.Prefixes.{Begun, begun-none, begun-wrong, begun-full, begun-more, begun-end, at-start}
@@ -50,7 +51,7 @@ loop-table-again c =
     let w = at-start (λ at q. Whole at q (c .in-Continue-inspect-2 .field-0)) bs t (c .flows .result .now) (c .flows .ensures) (c .in-Continue-inspect-2 .ensures tt) in
     let f = at-start (λ at q. c .flow-of .result ≡ flowOf q) bs t (c .flows .result .now) (c .flows .ensures) (c .flow-of .ensures) in
     let next = begun-more bs t (c .loop-table .inv) (λ i. c .typed .bytes i .fits) (c .in-rest .ensures tt .0) (rw (c .in-Flow .is) at w) in
-    subst (Begun bs) (sym (c .in-rest .ensures tt .1 ∙ ap (pushed t) f)) next
+    subst (Begun bs) {y = content (c .add .last .self)} (sym (c .in-rest .ensures tt .1 ∙ ap (pushed t) f)) next
 
 pub returns-in-End : need.returns-in-End
 returns-in-End c =

@@ -1,8 +1,7 @@
-use mathlib.Core.Path.{_≡_, refl, sym, ap, _∙_}
-use Prim.Native.Nat.{_+_, _*_, _≤_, _<_}
+use mathlib.Core.Path.{_≡_, sym}
+use Prim.Native.Nat.{_+_, _*_}
 use native.Mathlib.Omega.{arith}
-use borrow.Author.Needs.{needs}
-use lib.ListN.{length, take}
+use lib.ListN.{length, getD, take}
 use Rattle.std.specs.Joined.{joined}
 use Rattle.std.proofs.shelf.Lists.{take-append-drop, take-all, length-take-le}
 use Rattle.table.specs.Blank.{blank}
@@ -21,8 +20,9 @@ loop-i-again c =
     let done = joined flowRecord (take i fs) in
     let short : length (take i fs) ≡ i = length-take-le i fs (omega arith) in
     let long : 8 + 12 * i ≡ 8 + length done = omega (arith, length-flows (take i fs)) in
-    let more = put-put 8 (8 + 12 * i) done _ (c .args .place .now) long (omega arith) in
-    rw (c .put .ensures, c .loop-i .inv, c .flow-record .ensures, flows-more fs i blank (omega arith)) more
+    let next = flows-more fs i blank (omega arith) in
+    rw (c .put .ensures, c .loop-i .inv, c .flow-record .ensures, next)
+    (put-put 8 (8 + 12 * i) done (flowRecord (getD fs i blank)) (c .args .place .now) long (omega arith))
 
 pub returns : need.returns
 returns c = let all = take-all (c .loop-i .i) (c .args .flows .now) (omega arith) in rw (← all) (c .loop-i .inv)
