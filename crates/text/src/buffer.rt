@@ -4,6 +4,7 @@ ghost use Prim.Native.Nat.{_≤_};
 ghost use lib.ListN.{length};
 
 mod build;
+mod fill;
 
 #[derive(Drop)]
 pub struct Text {

@@ -1,9 +1,7 @@
 // What is put at the end of a text; what does not fit is cut off.
 // `joins` says the same as `says` to a caller that puts several pieces one after another.
 ghost use mathlib.Core.Path.{_≡_};
-ghost use mathlib.Core.List.{[], _∷_, _++_};
-ghost use Prim.Native.Nat.{_+_, _-_, _<_, min};
-ghost use lib.ListN.{length};
+ghost use mathlib.Core.List.{[], _++_};
 ghost use Rattle.std.specs.Written.{decimal};
 ghost use Rattle.text.specs.Said.{said, clipped, Joins};
 use super::Text;
@@ -33,17 +31,6 @@ impl Text {
         self.write(part, n);
     }
 
-    // The first n bytes of the part: all that there is room for.
-    fn write(&mut self, part: &[u8], n: usize)
-        requires { ⌜ n ≡ min (length (now part)) (8192 - now self .len) ⌝ }
-        ensures says { λ _. ⌜ said (now (self .exit)) ≡ clipped (said (now (self .entry)) ++ now (part .entry)) ⌝ }
-        ensures joins { λ _. ⌜ Joins (now (self .entry)) (λ a. a ++ now (part .entry)) (now (self .exit)) ⌝ }
-    {
-        let end = self.len + n;
-        self.bytes[self.len..end].copy_from_slice(&part[0..n]);
-        self.len = end;
-    }
-
     // The number in decimal.
     pub fn number(&mut self, n: u64)
         ensures says { λ _. ⌜ said (now (self .exit)) ≡ clipped (said (now (self .entry)) ++ decimal n) ⌝ }
@@ -53,13 +40,6 @@ impl Text {
             self.number(n / 10);
         }
         self.digit(n % 10);
-    }
-
-    fn digit(&mut self, d: u64)
-        requires { ⌜ d < 10 ⌝ }
-        ensures { λ _. ⌜ said (now (self .exit)) ≡ clipped (said (now (self .entry)) ++ (48 + d) ∷ []) ⌝ }
-    {
-        self.put(&[b'0' + d as u8]);
     }
 
     // A label, and then a number in decimal.
