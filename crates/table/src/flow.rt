@@ -1,4 +1,6 @@
 // The parts of a table.
+ghost use mathlib.Core.Path.{_≡_};
+ghost use Rattle.std.specs.Orderings.{Decides};
 use quantity::Depth;
 use quantity::DepthDebug;
 use quantity::DepthPartialEq;
@@ -21,13 +23,27 @@ pub struct Dimensions {
 }
 
 // A flow runs from a router to a router, each a column and a row, under a token bucket.
-#[derive(Clone, Copy, PartialEq, Eq, Debug)]
+#[derive(Clone, Copy, Debug)]
 pub struct Flow {
     pub source: (u8, u8),
     pub destination: (u8, u8),
     pub burst: Packets,
     pub rate: Rate,
 }
+
+// Derived, it would not be said in the form that a comparison of slices builds on.
+pub impl PartialEq<Flow> for Flow as FlowPartialEq {
+    ghost equals = { λ a b r. Decides r (a ≡ b) };
+
+    fn eq(&self, other: &Flow) -> bool {
+        self.source == other.source
+            && self.destination == other.destination
+            && self.burst == other.burst
+            && self.rate == other.rate
+    }
+}
+
+pub impl Eq for Flow as FlowEq {}
 
 // What fills the entries of a table that hold no flow.
 pub(crate) const NO_FLOW: Flow = Flow {

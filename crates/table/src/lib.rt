@@ -22,3 +22,5 @@ pub use flow::Flow;
 pub use flow::FlowDebug;
 pub use flow::FlowPartialEq;
 pub use model::Table;
+pub use model::TableEq;
+pub use model::TablePartialEq;

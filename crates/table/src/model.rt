@@ -7,6 +7,10 @@ use crate::flow::Dimensions;
 use crate::flow::Flow;
 
 mod build;
+mod equality;
+
+pub use equality::TableEq;
+pub use equality::TablePartialEq;
 
 // Entries past the count are all the same, so that equal content is an equal value.
 #[derive(Clone, Copy)]

@@ -18,6 +18,7 @@ mod tests {
     use table::Layer;
     use table::Place;
     use table::Table;
+    use table::TablePartialEq;
 
     const DIMENSIONS: Dimensions = Dimensions {
         side: 3,
@@ -101,8 +102,9 @@ mod tests {
             return check(false).note("refused");
         };
         check(table.dimensions() == DIMENSIONS)?;
-        check(table.flows().len() == 1)?;
-        check(table.flows()[0] == FLOW)
+        check(table.flows() == &[FLOW])?;
+        check(table == one_flow()?)?;
+        check(table != Table::new(DIMENSIONS))
     }
 
     // What stands at the front of a file, and the refusal's number and byte.
