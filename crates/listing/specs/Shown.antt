@@ -7,7 +7,7 @@ use Rattle.std.specs.declared.result.Result.the-variants.{Ok, Err}
 use Rattle.table.specs.declared.fault.Fault.{Fault}
 use Rattle.table.specs.declared.model.Table.{Table}
 use Rattle.table.specs.Content.{content}
-use Rattle.table.specs.Reading.{Answers}
+use Rattle.table.specs.Reading.{Answers, Alone}
 use Rattle.listing.specs.Lines.{tableText, refusedLine}
 
 abbrev pub answerText : Result Table Fault → List ℕ
@@ -18,5 +18,5 @@ answerText (Err f) = refusedLine f
 pub record Shown (bs s : List ℕ) : Type 0 where
   pub answer : Result Table Fault
   pub right : Answers bs answer
-  pub alone : (other : Result Table Fault) → Answers bs other → other ≡ answer
+  pub alone : Alone bs answer
   pub text : s ≡ answerText answer

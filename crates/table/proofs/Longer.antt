@@ -1,7 +1,7 @@
 -- More bytes behind 1024 alter no answer: every table file is shorter, and every fault lies further in front.
 use mathlib.Core.Path.{_≡_, ap, _∙_}
 use mathlib.Core.List.{List, _++_, append-assoc}
-use Prim.Native.Nat.{ℕ, _+_, _*_, _<_, _≤_}
+use Prim.Native.Nat.{ℕ, _+_, _<_, _≤_}
 use native.Mathlib.Omega.{arith}
 use lib.ListN.{length, getD}
 use Rattle.std.specs.declared.result.Result.{Result}
@@ -12,8 +12,8 @@ use Rattle.table.specs.declared.model.Table.{Table}
 use Rattle.table.specs.declared.record.Kind.{Kind}
 use Rattle.table.specs.declared.record.Kind.the-variants.{Head, Flow, End}
 use Rattle.table.specs.Content.{content}
-use Rattle.table.specs.Format.{front, encode}
-use Rattle.table.specs.Reading.{wordAt, dueAt, bodyLength, Headed, Whole, Broken, Wrong, Refused, Answers, Settled}
+use Rattle.table.specs.Format.{front}
+use Rattle.table.specs.Reading.{wordAt, bodyLength, Headed, Whole, Broken, Wrong, Refused, Answers, Settled}
 use Rattle.table.specs.Reading.Broken.{headless, undue, missized, cut}
 use Rattle.table.specs.Reading.Wrong.{broken, excess, miscount, trailing}
 use Rattle.table.specs.Reading.Refused.{at-head, behind}

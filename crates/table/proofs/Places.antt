@@ -1,6 +1,6 @@
 -- One put after another.
 use mathlib.Core.Path.{_≡_, refl, sym, ap, _∙_}
-use mathlib.Core.List.{List, [], _∷_, _++_, append-assoc}
+use mathlib.Core.List.{List, [], _++_, append-assoc}
 use Prim.Native.Nat.{ℕ, _+_, _*_, _≤_, _<_}
 use native.Mathlib.Nat.{add-assoc, zero-add}
 use native.Mathlib.Omega.{arith}
@@ -8,10 +8,9 @@ use lib.ListN.{length, take, drop, getD}
 use Rattle.std.specs.Joined.{joined}
 use Rattle.std.proofs.shelf.Lists.{length-append, length-take-le, take-at, drop-at, drop-drop, take-more, joined-more}
 use Rattle.table.specs.declared.flow.Flow.{Flow}
-use Rattle.table.specs.declared.model.Table.{Table}
-use Rattle.table.specs.Content.{Content, content}
+use Rattle.table.specs.Content.{Content}
 use Rattle.table.specs.Format.{headRecord, flowRecord, endRecord, front, encode}
-use Rattle.table.specs.Writing.{putAt, over, fileOf}
+use Rattle.table.specs.Writing.{putAt, over}
 use Rattle.table.proofs.Prefixes.{length-flows, length-front}
 
 pub put-put : (at n : ℕ) (s t d : List ℕ) → n ≡ at + length s → n + length t ≤ length d → putAt n t (putAt at s d) ≡ putAt at (s ++ t) d

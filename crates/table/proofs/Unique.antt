@@ -1,8 +1,8 @@
 -- No bytes have two answers.
-use mathlib.Core.Path.{_≡_, refl, sym, ap, subst, _∙_}
+use mathlib.Core.Path.{_≡_, refl, sym, ap, _∙_}
 use mathlib.Core.Bool.{cond}
 use mathlib.Core.List.{List, [], _∷_, _++_, append-assoc}
-use Prim.Native.Nat.{ℕ, zero, suc, _+_, _*_, _/_, _%_, _<_, _≤_}
+use Prim.Native.Nat.{ℕ, _+_, _*_, _/_, _%_, _<_, _≤_}
 use native.Mathlib.Omega.{arith}
 use lib.Dec.{eqb, ltb}
 use lib.ListN.{length}
@@ -21,7 +21,7 @@ use Rattle.table.specs.declared.record.Kind.the-variants as kinds
 use Rattle.table.specs.declared.record.Kind.the-variants.{Head, End}
 use Rattle.table.specs.Content.{Content, content}
 use Rattle.table.specs.Format.{headRecord, flowRecord, endRecord, front, encode}
-use Rattle.table.specs.Reading.{wordAt, refusal, dueAt, bodyLength, Headed, Whole, Broken, Wrong, Refused, Answers}
+use Rattle.table.specs.Reading.{wordAt, refusal, dueAt, bodyLength, Whole, Broken, Wrong, Answers}
 use Rattle.table.specs.Reading.Broken.{headless, undue, missized, cut}
 use Rattle.table.specs.Reading.Wrong.{broken, excess, miscount, trailing}
 use Rattle.table.specs.Reading.Refused.{at-head, behind}

@@ -71,6 +71,10 @@ abbrev pub Answers : List ℕ → Result Table Fault → Type 0
 Answers bs (Ok t) = bs ≡ encode (content t)
 Answers bs (Err f) = Refused bs f
 
+-- r is the only right answer, if it is one
+abbrev pub Alone : List ℕ → Result Table Fault → Type 0
+Alone bs r = (s : Result Table Fault) → Answers bs s → s ≡ r
+
 -- 1024 bytes settle the answer, whatever follows them
 abbrev pub Settled : List ℕ → Result Table Fault → Type 0
 Settled bs r = (more : List ℕ) → 1024 ≤ length bs → Answers (bs ++ more) r

@@ -1,13 +1,7 @@
 // Reading a table file.
-ghost use mathlib.Core.Path.{_≡_};
-ghost use Prim.Native.Nat.{_+_, _≤_};
-ghost use lib.ListN.{length};
-ghost use Rattle.std.specs.declared.result.Result.{Result};
-ghost use Rattle.table.specs.declared.fault.Fault.{Fault};
-ghost use Rattle.table.specs.declared.model.Table.{Table};
+ghost use Prim.Native.Nat.{_≤_};
 ghost use Rattle.table.specs.declared.record.Kind.the-variants.{End};
-ghost use Rattle.table.specs.Content.{content};
-ghost use Rattle.table.specs.Reading.{Answers, Whole, Settled};
+ghost use Rattle.table.specs.Reading.{Answers, Alone, Settled, Whole};
 ghost use Rattle.table.specs.Inspecting.{Ended};
 ghost use Rattle.table.specs.Writing.{Writes-back};
 use crate::fault::Fault;
@@ -44,6 +38,7 @@ fn scan(bytes: &[u8]) -> Result<Table, Fault>
         let at = 8 + 12 * table.flows().len();
         let rest = &bytes[at..];
         match inspect(rest, at)? {
+            // (a head is due at byte 0 alone)
             Kind::Head => return Err(refused(2, at)),
             Kind::Flow => {
                 if let Err(_) = table.add(flow_of(rest)) {
@@ -59,7 +54,7 @@ impl Table {
     // The table whose file the bytes are, or the fault of the first record that is not as it should be.
     pub fn read(bytes: &[u8]) -> Result<Table, Fault>
         ensures answer { λ r. ⌜ Answers (now (bytes .entry)) r ⌝ }
-        ensures alone { λ r. ⌜ ((s : Result Table Fault) → Answers (now (bytes .entry)) s → s ≡ r) ⌝ }
+        ensures alone { λ r. ⌜ Alone (now (bytes .entry)) r ⌝ }
         ensures settled { λ r. ⌜ Settled (now (bytes .entry)) r ⌝ }
         ensures back { λ r. ⌜ Writes-back (now (bytes .entry)) r ⌝ }
     {

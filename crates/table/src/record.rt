@@ -2,7 +2,6 @@
 ghost use mathlib.Core.Path.{_≡_};
 ghost use Prim.Native.Nat.{_+_, _≤_};
 ghost use lib.ListN.{length};
-ghost use Rattle.table.specs.Format.{headRecord, flowRecord, endRecord};
 ghost use Rattle.table.specs.Reading.{refusal, wordAt, dueAt, bodyLength};
 ghost use Rattle.table.specs.Inspecting.{Opened, Inspected, dimensionsOf, flowOf};
 use crate::fault::Fault;

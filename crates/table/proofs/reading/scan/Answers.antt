@@ -4,7 +4,6 @@ use native.Mathlib.Omega.{arith}
 use lib.ListN.{length}
 use Rattle.std.proofs.shelf.Lists.{length-push}
 use Rattle.std.proofs.shelf.Results.{err-from-errBy}
-use Rattle.table.specs.declared.record.Kind.the-variants.{Flow, End}
 use Rattle.table.specs.Content.{content, pushed}
 use Rattle.table.specs.Reading.{refusal, Broken, Whole}
 use Rattle.table.specs.Inspecting.{Ended, flowOf}

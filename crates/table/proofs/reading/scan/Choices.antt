@@ -1,4 +1,4 @@
-use Prim.Native.Nat.{_+_, _-_, _*_}
+use Prim.Native.Nat.{_-_}
 use lib.ListN.{length}
 use Rattle.table.specs.Content.{content}
 use Rattle.table.proofs.Prefixes.{Begun}

@@ -1,4 +1,3 @@
-use mathlib.Core.Path.{sym, _∙_}
 use borrow.Author.Needs.{needs}
 use Rattle.table.specs.Reading.Broken.{missized, cut}
 use Rattle.table.proofs.record.inspect.Needs as need
