@@ -1,8 +1,8 @@
 #!/usr/bin/env python3
 """An independent model of table files: it writes the expected files of the tests.
 
-model.py DIR writes the examples, some cases and the files of two programs below DIR; tests/run
-compares them with the ones that are kept. It shares no code with the crates.
+model.py DIR writes the examples, some cases, the text of every case and the files of two programs
+below DIR; tests/run compares them with the ones that are kept. It shares no code with the crates.
 """
 import os
 import struct
@@ -139,7 +139,11 @@ def main():
     files = {}
     for name, data in cases().items():
         files[f'tests/cases/show/{name}.table'] = data
-        files[f'tests/cases/show/{name}.txt'] = show(data).encode()
+    kept = os.path.join(os.path.dirname(os.path.abspath(__file__)), 'cases', 'show')
+    for name in os.listdir(kept):
+        if name.endswith('.table'):
+            with open(os.path.join(kept, name), 'rb') as f:
+                files[f'tests/cases/show/{name[:-6]}.txt'] = show(f.read()).encode()
     for name, table in EXAMPLES.items():
         data = encode(table)
         files[f'examples/{name}.table'] = data

@@ -37,7 +37,7 @@ fn changes(rt: &LibcRuntime, bytes: &mut Vec<u8>, at: usize) -> io::Result<()> {
     Ok(())
 }
 
-// The file of as many times the first flow as that file may not have.
+// A file with the first flow 65 times, once more than a file may have flows.
 fn crowded(rt: &LibcRuntime, bytes: &[u8]) -> io::Result<()> {
     if bytes.len() < 20 {
         return Ok(());
