@@ -1,0 +1,4 @@
+pub mod Sigma
+pub mod Delays
+pub mod Systems
+pub mod Counts

@@ -1,0 +1,2 @@
+pub mod Fixed
+mod Passes
