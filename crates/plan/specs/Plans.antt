@@ -1,7 +1,7 @@
 -- What a plan keeps.
 use mathlib.Core.Path.{_≡_}
 use mathlib.Core.Bool.{Bool, true}
-use mathlib.Core.List.{List}
+use mathlib.Core.List.{List, []}
 use Prim.Native.Nat.{ℕ, _+_, _*_, _<_, _≤_}
 use lib.Dec.{ltb}
 use lib.ListN.{getD}
@@ -19,6 +19,10 @@ packetsOf ps k = getD ps k (record { 0 = 0 }) .0
 
 abbrev pub tableOf : Draft → Content
 tableOf d = content (d .table)
+
+-- the table of a place for a plan as it starts: side 2, depth 1, frame 2, no flows
+abbrev pub emptyTable : Content
+emptyTable = record { dimensions = record { side = 2; depth = record { 0 = 1 }; frame = record { 0 = 2 } }; flows = [] }
 
 abbrev pub burstsOf : Draft → ℕ → ℕ
 burstsOf d = unitsOf (d .bursts)
@@ -41,8 +45,7 @@ Deep c x = (r : ℕ × ℕ) → r .0 < side c → r .1 < side c → backlog c x 
 abbrev pub shallow : Content → (ℕ → ℕ) → ℕ × ℕ → Bool
 shallow c x r = ltb (depth c) (backlog c x r + 1)
 
--- the table's own numbers keep their ranges
--- and so do its flows
+-- the table's own numbers and its flows keep their ranges
 pub record Whole (c : Content) : Type 0 where
   pub ranged : Ranged c
   pub flows : Faultless c (count c)

@@ -87,7 +87,7 @@ pub(crate) struct Shallow<'a, 'b> {
     pub(crate) bursts: &'b [Units],
 }
 
-impl RouterTest for Shallow<'_, '_> as ShallowTest {
+pub(crate) impl RouterTest for Shallow<'_, '_> as ShallowTest {
     ghost holds = { λ s r. shallow (content (s .table .now)) (unitsOf (s .bursts .now)) r };
 
     fn test(&self, router: (u8, u8)) -> bool {

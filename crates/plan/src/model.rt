@@ -9,6 +9,8 @@ ghost use Rattle.plan.specs.Faults.{Faultless};
 ghost use Rattle.plan.specs.Plans.{tableOf, burstsOf, Ranged, Backlogs, Over, Deep};
 use crate::draft::Draft;
 
+mod build;
+
 // Every plan that exists keeps all rules. Entries behind the last flow and the last router are
 // nothing, so that a table has only one plan.
 #[derive(Clone, Copy)]
