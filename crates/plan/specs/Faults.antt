@@ -48,10 +48,10 @@ abbrev pub flowFault : ℕ → ℕ → Flow → Option FlowFault
 flowFault m q f =
     cond (onTorus m f)
     (cond (isStill f)
-      (Some Still)
-      (cond (burstFits f)
-        (cond (rateFits q f) None (Some Rate))
-        (Some Burst)))
+    (Some Still)
+    (cond (burstFits f)
+    (cond (rateFits q f) None (Some Rate))
+    (Some Burst)))
     (Some Outside)
 
 abbrev pub faultAt : Content → ℕ → Option FlowFault

@@ -2,5 +2,8 @@ pub mod Order
 pub mod Faults
 pub mod Numbers
 pub mod Plans
+pub mod Told
 pub mod Stored
 pub mod Refusals
+pub mod Whole
+pub mod Loading

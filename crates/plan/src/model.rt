@@ -10,6 +10,7 @@ ghost use Rattle.plan.specs.Plans.{tableOf, burstsOf, Ranged, Backlogs, Over, 
 use crate::draft::Draft;
 
 mod build;
+mod read;
 
 // Every plan that exists keeps all rules. Entries behind the last flow and the last router are
 // nothing, so that a table has only one plan.

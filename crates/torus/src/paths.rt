@@ -1,5 +1,6 @@
 // The routers that a flow goes by.
 ghost use mathlib.Core.Path.{_≡_};
+ghost use Prim.Native.Nat.{_<_};
 ghost use Rattle.torus.specs.Paths as path;
 use crate::routers::ahead;
 use quantity::Steps;
@@ -49,7 +50,8 @@ pub fn north(side: u8, flow: &Flow, router: (u8, u8)) -> bool
 
 // The steps of a packet that never waits.
 pub fn hops(side: u8, flow: &Flow) -> Steps
-    ensures { λ r. ⌜ r .0 ≡ path.hops side (now (flow .entry)) ⌝ }
+    ensures value { λ r. ⌜ r .0 ≡ path.hops side (now (flow .entry)) ⌝ }
+    ensures small { λ r. ⌜ r .0 < 1000 ⌝ }
 {
     let east = ahead(side, flow.source.0, flow.destination.0);
     let south = ahead(side, flow.source.1, flow.destination.1);

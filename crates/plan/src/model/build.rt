@@ -8,12 +8,16 @@ ghost use Rattle.bounds.specs.Bursts.{Ends};
 ghost use Rattle.plan.specs.Order.{Nowhere};
 ghost use Rattle.plan.specs.Plans.{tableOf, emptyTable, Sound, shallow};
 ghost use Rattle.plan.specs.Refusals.{Admits, Admitted};
+ghost use Rattle.plan.specs.Loading.{Loaded};
 use super::Plan;
-use crate::admission::check;
 use crate::admission::Shallow;
 use crate::admission::ShallowTest;
+use crate::admission::check;
 use crate::backlogs::backlogs;
 use crate::draft::Draft;
+use crate::fault::PlanFault;
+use crate::fault::PlanFaultFromFile;
+use crate::fault::PlanFaultFromRefusal;
 use crate::refusal::FaultFromRefusal;
 use crate::refusal::Refusal;
 use crate::routers::first_router;
@@ -53,7 +57,13 @@ pub(crate) fn plan_of(table: &Table) -> Result<Plan, Refusal>
         return Err(Refusal::Unbounded);
     };
     let side = table.dimensions().side;
-    match first_router(side, &Shallow { table, bursts: &bursts }) {
+    match first_router(
+        side,
+        &Shallow {
+            table,
+            bursts: &bursts,
+        },
+    ) {
         None => Ok(complete(table, bursts)),
         Some(router) => Err(Refusal::Shallow(router)),
     }
@@ -83,6 +93,15 @@ impl Plan {
         ensures { λ r. ⌜ Admitted (content (now (table .entry))) (now (self .entry)) (now (self .exit)) r ⌝ }
     {
         *self = plan_of(table)?;
+        Ok(())
+    }
+
+    // The same for the table whose file the bytes are.
+    pub fn load(&mut self, bytes: &[u8]) -> Result<(), PlanFault>
+        ensures { λ r. ⌜ Loaded (now (bytes .entry)) (now (self .entry)) (now (self .exit)) r ⌝ }
+    {
+        let table = Table::read(bytes)?;
+        *self = plan_of(&table)?;
         Ok(())
     }
 }

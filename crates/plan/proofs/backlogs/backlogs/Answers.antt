@@ -14,8 +14,9 @@ loop-k-again c =
     let ps = c .loop-k .packets in
     let p = c .backlog-at .result in
     let none : Packets = record { 0 = 0 } in
-    let in-k : k < length ps = omega (arith, c .loop-k .inv .0) in
-    (length-set ps k p ∙ c .loop-k .inv .0,
+    let in-k : k < length ps = omega (arith, c .loop-k .inv .0) in (
+      length-set ps k p ∙ c .loop-k .inv .0,
       below-more _ _
-      (λ j h. let ne : j ≢ k = omega arith in ap (λ (q : Packets). q .0) (getD-set-other ps k j p none ne) ∙ c .loop-k .inv .1 j h)
-      (ap (λ (q : Packets). q .0) (getD-set-same ps k p none in-k) ∙ c .backlog-at .ensures))
+          (λ j h. let ne : j ≢ k = omega arith in ap (λ (q : Packets). q .0) (getD-set-other ps k j p none ne) ∙ c .loop-k .inv .1 j h)
+          (ap (λ (q : Packets). q .0) (getD-set-same ps k p none in-k) ∙ c .backlog-at .ensures),
+    )

@@ -12,17 +12,40 @@ ghost-result c =
     let keeps = c .pre .least .keeps in
     let deep = deep-from t x (c .pre .deep) in
     let ps = c .backlogs-backlogs .result in
-    let ensures = c .backlogs-backlogs .ensures in
-    ((c .pre .long, ensures .long),
-      (whole .ranged,
-      (whole .flows,
-      (sound .roomy .turns,
-      (sound .sources,
-      (keeps .straight,
-      (keeps .turning,
-      (keeps .capped,
-      (c .pre .least .minimal,
-      (c .pre .ends,
-      (backlogs-from t x (whole .ranged) ps (ensures .long) (ensures .each) deep,
-      (over-from t x (whole .ranged) ps (ensures .long) (ensures .each),
-      (deep, tt)))))))))))))
+    let ensures = c .backlogs-backlogs .ensures in (
+      (c .pre .long, ensures .long),
+      (
+        whole .ranged,
+        (
+          whole .flows,
+          (
+            sound .roomy .turns,
+            (
+              sound .sources,
+              (
+                keeps .straight,
+                (
+                  keeps .turning,
+                  (
+                    keeps .capped,
+                    (
+                      c .pre .least .minimal,
+                      (
+                        c .pre .ends,
+                        (
+                          backlogs-from t x (whole .ranged) ps (ensures .long) (ensures .each) deep,
+                          (
+                            over-from t x (whole .ranged) ps (ensures .long) (ensures .each),
+                            (deep, tt),
+                          ),
+                        ),
+                      ),
+                    ),
+                  ),
+                ),
+              ),
+            ),
+          ),
+        ),
+      ),
+    )
