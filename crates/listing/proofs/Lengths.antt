@@ -1,10 +1,11 @@
--- How long the lines are: every text about a table or a fault has room.
+-- How long the lines are: every text about a table, a plan or a fault has room.
 use mathlib.Core.Path.{_≡_, ap, _∙_}
 use mathlib.Core.List.{List, [], _∷_, _++_}
 use Prim.Native.Nat.{ℕ, _+_, _*_, _^_, _<_, _≤_, suc}
 use native.Mathlib.Omega.{arith}
 use lib.ListN.{length, length-append, getD}
 use Rattle.std.specs.Written.{decimal}
+use Rattle.std.specs.declared.option.Option.the-variants.{Some}
 use Rattle.std.proofs.shelf.Decimals.{length-decimal-le}
 use Rattle.table.specs.declared.fault.Fault.{Fault}
 use Rattle.table.specs.declared.fault.Place.{Place}
@@ -13,9 +14,14 @@ use Rattle.table.specs.declared.flow.Dimensions.{Dimensions}
 use Rattle.table.specs.declared.flow.Flow.{Flow}
 use Rattle.table.specs.Blank.{blank}
 use Rattle.table.specs.Content.{Content}
+use Rattle.bounds.specs.Sums.{count}
+use Rattle.plan.specs.declared.told.FlowBounds.{FlowBounds}
+use Rattle.plan.specs.declared.told.RouterBounds.{RouterBounds}
+use Rattle.plan.specs.Told as told
 use Rattle.text.specs.Said.{clipped}
 use Rattle.text.proofs.Clips.{clipped-short, joined}
 use Rattle.listing.specs.Lines.{torusLine, flowLine, flowLines, countLine, tableText, placeWords, refusedLine}
+use Rattle.listing.specs.Plans.{boundsLine, boundsLines, queueLine, queueLines, admittedLine, planText}
 use Rattle.listing.specs.Small.{DimensionsSmall, FlowSmall, PlaceSmall}
 
 -- three pieces that have room, put at the end of an empty text
@@ -23,6 +29,13 @@ pub three : {t₀ t₁ t₂ t₃ : List ℕ} (a b c : List ℕ) → t₀ ≡ [] 
 three a b c none first second third room =
     let front = joined [] a b (first ∙ ap (λ t. clipped (t ++ a)) none) second in
     joined [] (a ++ b) c front third ∙ clipped-short (a ++ b ++ c) room
+
+-- one piece more
+pub four : {t₀ t₁ t₂ t₃ t₄ : List ℕ} (a b c d : List ℕ) → t₀ ≡ [] → t₁ ≡ clipped (t₀ ++ a) → t₂ ≡ clipped (t₁ ++ b) → t₃ ≡ clipped (t₂ ++ c) → t₄ ≡ clipped (t₃ ++ d) → length (a ++ b ++ c ++ d) ≤ 8192 → t₄ ≡ a ++ b ++ c ++ d
+four a b c d none first second third fourth room =
+    let front = joined [] a b (first ∙ ap (λ t. clipped (t ++ a)) none) second in
+    let more = joined [] (a ++ b) c front third in
+    joined [] (a ++ b ++ c) d more fourth ∙ clipped-short (a ++ b ++ c ++ d) room
 
 word : (n : ℕ) → n < 2 ^ 16 → length (decimal n) ≤ 5
 word n h = length-decimal-le 5 n (omega arith) (omega arith) (omega arith)
@@ -70,3 +83,34 @@ place-short places.Nowhere h = omega arith
 
 pub refused-short : (f : Fault) → f .number < 2 ^ 16 → PlaceSmall (f .place) → length (refusedLine f) ≤ 8192
 refused-short f n h = let words = place-short (f .place) h in simp length-append (omega (arith, word (f .number) n))
+
+pub bounds-short : (n : ℕ) (b : FlowBounds) → n ≤ 64 → told.FlowSmall (Some b) → length (boundsLine n b) ≤ 88
+bounds-short n b few h =
+    let number = length-decimal-le 2 n (omega arith) (omega arith) (omega arith) in
+    let burst = length-decimal-le 6 (b .burst .0) (omega arith) (omega arith) (omega arith) in
+    let wait = length-decimal-le 12 (b .wait .0) (omega arith) (omega arith) (omega arith) in
+    let turn = length-decimal-le 12 (b .turn .0) (omega arith) (omega arith) (omega arith) in
+    let hops = length-decimal-le 3 (b .hops .0) (omega arith) (omega arith) (omega arith) in
+    let latency = length-decimal-le 13 (b .latency .0) (omega arith) (omega arith) (omega arith) in
+    simp length-append (omega arith)
+
+pub queue-short : (r : ℕ × ℕ) (q : RouterBounds) → r .0 < 8 → r .1 < 8 → told.RouterSmall (Some q) → length (queueLine r q) ≤ 33
+queue-short r q column row h =
+    let x = length-decimal-le 1 (r .0) (omega arith) (omega arith) (omega arith) in
+    let y = length-decimal-le 1 (r .1) (omega arith) (omega arith) (omega arith) in
+    let backlog = length-decimal-le 3 (q .backlog .0) (omega arith) (omega arith) (omega arith) in
+    let depth = length-decimal-le 3 (q .depth .0) (omega arith) (omega arith) (omega arith) in
+    simp length-append (omega arith)
+
+admitted-short : (n : ℕ) → n < 2 ^ 16 → length (admittedLine n) ≤ 15
+admitted-short n h = simp length-append (omega (arith, word n h))
+
+-- 64 lines of flows and 64 lines of routers have room
+pub plan-short : (c : Content) (x : ℕ → ℕ) → DimensionsSmall (c .dimensions) → count c ≤ 64 → length (boundsLines c x) ≤ 5632 → length (queueLines c x) ≤ 2112 → length (planText c x) ≤ 8192
+plan-short c x d few flows routers =
+    let first = torus-short (c .dimensions) d in
+    let last = admitted-short (count c) (omega arith) in
+    let one = torusLine (c .dimensions) in
+    let two = one ++ boundsLines c x in
+    let three = two ++ queueLines c x in
+    omega (arith, length-append three (admittedLine (count c)), length-append two (queueLines c x), length-append one (boundsLines c x))

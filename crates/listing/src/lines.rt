@@ -40,7 +40,7 @@ pub fn refused_line(fault: Fault) -> Text
     text
 }
 
-fn torus_line(text: &mut Text, dimensions: Dimensions)
+pub(crate) fn torus_line(text: &mut Text, dimensions: Dimensions)
     ensures says { λ _. ⌜ said (now (text .exit)) ≡ clipped (said (now (text .entry)) ++ torusLine dimensions) ⌝ }
     ensures small { λ _. ⌜ DimensionsSmall dimensions ⌝ }
 {
@@ -72,7 +72,7 @@ fn flow_line(text: &mut Text, number: usize, flow: Flow)
 }
 
 // A label, and then the router's column and row.
-fn router_words(text: &mut Text, label: &[u8], router: (u8, u8))
+pub(crate) fn router_words(text: &mut Text, label: &[u8], router: (u8, u8))
     ensures says { λ _. ⌜ said (now (text .exit)) ≡ clipped (said (now (text .entry)) ++ routerWords (now (label .entry)) router) ⌝ }
     ensures joins { λ _. ⌜ Joins (now (text .entry)) (λ a. routerWords (a ++ now (label .entry)) router) (now (text .exit)) ⌝ }
 {

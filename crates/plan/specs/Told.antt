@@ -37,8 +37,11 @@ abbrev pub routerTold : Content → (ℕ → ℕ) → ℕ × ℕ → Option Rout
 routerTold c x r = cond (on (side c) r) (Some (routerBounds c x r)) None
 
 -- how large these numbers are
+abbrev pub Small : FlowBounds → Type 0
+Small f = (f .burst .0 ≤ 131072) × (f .wait .0 < 10 ^ 12) × (f .turn .0 < 10 ^ 12) × (f .hops .0 < 10 ^ 3) × (f .latency .0 < 10 ^ 13)
+
 abbrev pub FlowSmall : Option FlowBounds → Type 0
-FlowSmall (Some f) = (f .burst .0 ≤ 131072) × (f .wait .0 < 10 ^ 12) × (f .turn .0 < 10 ^ 12) × (f .hops .0 < 10 ^ 3) × (f .latency .0 < 10 ^ 13)
+FlowSmall (Some f) = Small f
 FlowSmall None = Unit {0}
 
 abbrev pub RouterSmall : Option RouterBounds → Type 0

@@ -1,12 +1,9 @@
 // What a plan tells.
 ghost use mathlib.Core.Path.{_≡_};
-ghost use mathlib.Core.Bool.{cond};
-ghost use Prim.Native.Nat.{_-_};
-ghost use Rattle.std.specs.declared.option.Option.the-variants.{Some, None};
+ghost use Prim.Native.Nat.{_<_};
 ghost use Rattle.bounds.specs.Sums.{count};
-ghost use Rattle.plan.specs.Faults.{within};
 ghost use Rattle.plan.specs.Plans.{tableOf, burstsOf};
-ghost use Rattle.plan.specs.Told.{flowTold, FlowSmall, routerTold, RouterSmall};
+ghost use Rattle.plan.specs.Told.{flowBounds, flowTold, Small, FlowSmall, routerTold, RouterSmall};
 use super::Plan;
 use crate::told::FlowBounds;
 use crate::told::RouterBounds;
@@ -27,14 +24,21 @@ impl Plan {
         &self.draft.table
     }
 
-    // The index of a flow by its number, which counts from 1.
-    fn index(&self, number: usize) -> Option<usize>
-        ensures { λ r. ⌜ r ≡ cond (within 1 (count (tableOf (now (self .entry) .draft))) number) (Some (number - 1)) None ⌝ }
+    // The bounds of flow `k`, counted from 0.
+    fn bounds_of(&self, k: usize) -> FlowBounds
+        requires { ⌜ k < count (tableOf (now self .draft)) ⌝ }
+        ensures value { λ r. ⌜ r ≡ flowBounds (tableOf (now (self .entry) .draft)) (burstsOf (now (self .entry) .draft)) k ⌝ }
+        ensures small { λ r. ⌜ Small r ⌝ }
     {
-        if 1 <= number && number <= self.draft.table.flows().len() {
-            return Some(number - 1);
+        let table = &self.draft.table;
+        let bursts = &self.draft.bursts;
+        FlowBounds {
+            burst: bursts[k],
+            wait: wait(table, bursts, k),
+            turn: turn_delay(table, bursts, k),
+            hops: hops(table.dimensions().side, &table.flows()[k]),
+            latency: latency(table, bursts, k),
         }
-        None
     }
 
     // The bounds of a flow by its number, which counts from 1.
@@ -42,18 +46,10 @@ impl Plan {
         ensures value { λ r. ⌜ r ≡ flowTold (tableOf (now (self .entry) .draft)) (burstsOf (now (self .entry) .draft)) number ⌝ }
         ensures small { λ r. ⌜ FlowSmall r ⌝ }
     {
-        let Some(k) = self.index(number) else {
-            return None;
-        };
-        let table = &self.draft.table;
-        let bursts = &self.draft.bursts;
-        Some(FlowBounds {
-            burst: bursts[k],
-            wait: wait(table, bursts, k),
-            turn: turn_delay(table, bursts, k),
-            hops: hops(table.dimensions().side, &table.flows()[k]),
-            latency: latency(table, bursts, k),
-        })
+        if 1 <= number && number <= self.draft.table.flows().len() {
+            return Some(self.bounds_of(number - 1));
+        }
+        None
     }
 
     // The bounds of a router's queue.

@@ -1,0 +1,4 @@
+mod Cases
+mod Sounds
+mod Five
+mod Ring
