@@ -33,5 +33,8 @@ Given s before after (Ok n) = (n ≡ length s) × (n ≤ length before) × (afte
 Given s before after (Err f) = (length before < length s) × (f ≡ short) × (after ≡ before)
 
 -- the listing of the bytes bs is given so; a place of 8192 bytes is never too short for it
-abbrev pub Lists : List ℕ → List ℕ → List ℕ → Result ℕ Fault → Type 0
-Lists bs before after r = (s : List ℕ) × Listed bs s × (length s ≤ 8192) × Given s before after r
+pub record Lists (bs before after : List ℕ) (r : Result ℕ Fault) : Type 0 where
+  pub text : List ℕ
+  pub listed : Listed bs text
+  pub small : length text ≤ 8192
+  pub given : Given text before after r

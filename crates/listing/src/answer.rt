@@ -1,4 +1,6 @@
 // The listing of a table file, to a caller's place.
+ghost use Prim.Native.Nat.{_≤_};
+ghost use lib.ListN.{length};
 ghost use Rattle.text.specs.Said.{said};
 ghost use Rattle.listing.specs.Listed.{Listed, Given, Lists};
 use crate::lines::refused_line;
@@ -20,7 +22,8 @@ pub fn list(bytes: &[u8], place: &mut [u8]) -> Result<usize, Fault>
 
 // The text of the plan of the table whose file the bytes are, or the line that says why they are refused.
 fn listing(bytes: &[u8]) -> Text
-    ensures { λ r. ⌜ Listed (now (bytes .entry)) (said r) ⌝ }
+    ensures listed { λ r. ⌜ Listed (now (bytes .entry)) (said r) ⌝ }
+    ensures small { λ r. ⌜ length (said r) ≤ 8192 ⌝ }
 {
     let mut plan = Plan::empty();
     match plan.load(bytes) {

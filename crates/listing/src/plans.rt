@@ -54,7 +54,13 @@ fn bounds_line(text: &mut Text, number: usize, bounds: FlowBounds)
     text.labelled(b"flow ", number as u64);
     text.labelled(b" burst ", bounds.burst.0 as u64);
     two_words(text, b" wait ", bounds.wait.0, b" turn ", bounds.turn.0);
-    two_words(text, b" hops ", bounds.hops.0, b" latency ", bounds.latency.0);
+    two_words(
+        text,
+        b" hops ",
+        bounds.hops.0,
+        b" latency ",
+        bounds.latency.0,
+    );
     text.put(b"\n");
 }
 

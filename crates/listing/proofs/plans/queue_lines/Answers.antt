@@ -6,4 +6,3 @@ loop-y-holds c = lined-none _ _ _
 
 pub loop-y-again : need.loop-y-again
 loop-y-again c = lined-more _ _ _ _ _ _ (c .loop-y .inv) (c .queue-row .ensures .says) (c .queue-row .ensures .small)
-
