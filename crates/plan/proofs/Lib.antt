@@ -1,3 +1,4 @@
 pub mod Checked
 pub mod Filled
 pub mod NoFlows
+pub mod Alone

@@ -40,3 +40,8 @@ Refused c f = (why : Refusal) × (f ≡ faultOf why) × Against c why
 abbrev pub Admitted : Content → Plan → Plan → Result (Unit {0}) Fault → Type 0
 Admitted c before after (Ok u) = tableOf (after .draft) ≡ c
 Admitted c before after (Err f) = Refused c f × (after ≡ before)
+
+-- the plan in the place is the table's only one, and a refused table has none
+abbrev pub Alone : Content → Plan → Result (Unit {0}) Fault → Type 0
+Alone c after (Ok u) = (q : Plan) → tableOf (q .draft) ≡ c → (q .draft .bursts ≡ after .draft .bursts) × (q .draft .backlogs ≡ after .draft .backlogs)
+Alone c after (Err f) = (q : Plan) → tableOf (q .draft) ≡ c → ⊥

@@ -1,4 +1,4 @@
 mod Cases
 mod Sounds
-mod Five
-mod Ring
+mod FiveFlows
+mod RingFlows

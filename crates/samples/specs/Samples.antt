@@ -53,7 +53,7 @@ samples =
     admitted (five 100) (660 ∷ 660 ∷ 300 ∷ 300 ∷ 780 ∷ []) (backlogOf (2, 1) 2 ∷ backlogOf (2, 2) 1 ∷ waitOf 4 21 ∷ [])
     ∷ refused (five 101) (Crowded 4)
     ∷ admitted (ring 24 10) (988 ∷ 988 ∷ 988 ∷ [])
-        (backlogOf (1, 0) 9 ∷ backlogOf (1, 1) 9 ∷ backlogOf (1, 2) 9 ∷ latencyOf 1 44 ∷ latencyOf 2 44 ∷ latencyOf 3 44 ∷ [])
+    (backlogOf (1, 0) 9 ∷ backlogOf (1, 1) 9 ∷ backlogOf (1, 2) 9 ∷ latencyOf 1 44 ∷ latencyOf 2 44 ∷ latencyOf 3 44 ∷ [])
     ∷ refused (ring 24 9) (Shallow (1, 0))
     ∷ refused (ring 25 10) Unbounded
     ∷ refused (ring 33 10) Unbounded

@@ -7,7 +7,7 @@ ghost use Rattle.bounds.specs.Bounds.{side, Least-bursts};
 ghost use Rattle.bounds.specs.Bursts.{Ends};
 ghost use Rattle.plan.specs.Order.{Nowhere};
 ghost use Rattle.plan.specs.Plans.{tableOf, emptyTable, Sound, shallow};
-ghost use Rattle.plan.specs.Refusals.{Admits, Admitted};
+ghost use Rattle.plan.specs.Refusals.{Admits, Admitted, Alone};
 ghost use Rattle.plan.specs.Loading.{Loaded};
 use super::Plan;
 use crate::admission::Shallow;
@@ -90,6 +90,13 @@ impl Plan {
 
     // Puts the table's plan in this place; a refusal leaves it as it was.
     pub fn admit(&mut self, table: &Table) -> Result<(), Fault>
+        ensures answer { λ r. ⌜ Admitted (content (now (table .entry))) (now (self .entry)) (now (self .exit)) r ⌝ }
+        ensures alone { λ r. ⌜ Alone (content (now (table .entry))) (now (self .exit)) r ⌝ }
+    {
+        self.fill(table)
+    }
+
+    fn fill(&mut self, table: &Table) -> Result<(), Fault>
         ensures { λ r. ⌜ Admitted (content (now (table .entry))) (now (self .entry)) (now (self .exit)) r ⌝ }
     {
         *self = plan_of(table)?;

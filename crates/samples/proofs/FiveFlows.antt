@@ -21,12 +21,12 @@ five-least = record {
     capped = each-5 _ (omega arith) (omega arith) (omega arith) (omega arith) (omega arith);
   };
   minimal = λ y a.
-    let p = a .turning 0 (omega arith) refl in
-    let q = a .turning 1 (omega arith) refl in
-    let r = a .straight 2 (omega arith) refl in
-    let s = a .straight 3 (omega arith) refl in
-    let t = a .turning 4 (omega arith) refl in
-    each-5 _ (omega arith) (omega arith) (omega arith) (omega arith) (omega arith);
+      let p = a .turning 0 (omega arith) refl in
+      let q = a .turning 1 (omega arith) refl in
+      let r = a .straight 2 (omega arith) refl in
+      let s = a .straight 3 (omega arith) refl in
+      let t = a .turning 4 (omega arith) refl in
+      each-5 _ (omega arith) (omega arith) (omega arith) (omega arith) (omega arith);
 }
 
 pub at-100 : Has-plan (five 100) (bursts (660 ∷ 660 ∷ 300 ∷ 300 ∷ 780 ∷ [])) (backlogOf (2, 1) 2 ∷ backlogOf (2, 2) 1 ∷ waitOf 4 21 ∷ [])

@@ -25,10 +25,10 @@ least depth = record {
     capped = each-3 _ (omega arith) (omega arith) (omega arith);
   };
   minimal = λ y a.
-    let p = a .turning 0 (omega arith) refl in
-    let q = a .turning 1 (omega arith) refl in
-    let r = a .turning 2 (omega arith) refl in
-    each-3 _ (omega arith) (omega arith) (omega arith);
+      let p = a .turning 0 (omega arith) refl in
+      let q = a .turning 1 (omega arith) refl in
+      let r = a .turning 2 (omega arith) refl in
+      each-3 _ (omega arith) (omega arith) (omega arith);
 }
 
 pub at-24 : Has-plan (ring 24 10) all-988
@@ -43,8 +43,14 @@ at-24 = record {
 
 pub at-depth-9 : Against (ring 24 9) (Shallow (1, 0))
 unfolding sum backlog
-at-depth-9 = (sound-from (ring 24 9) refl refl refl, (all-988, least 9,
-  record { column = omega arith; row = omega arith; here = refl; above = λ row h. absurd (omega arith); before = each-1 _ refl }))
+at-depth-9 = (
+  sound-from (ring 24 9) refl refl refl,
+  (
+    all-988,
+    least 9,
+    record { column = omega arith; row = omega arith; here = refl; above = λ row h. absurd (omega arith); before = each-1 _ refl },
+  ),
+)
 
 pub at-25 : Against (ring 25 10) Unbounded
 unfolding sum
@@ -56,5 +62,7 @@ at-33 = (sound-from (ring 33 10) refl refl refl, λ y a. omega (arith, a .turnin
 
 pub at-34 : Against (ring 34 10) (Saturated (1, 0))
 unfolding sum
-at-34 = (whole-from (ring 34 10) refl,
-  record { column = omega arith; row = omega arith; here = refl; above = λ row h. absurd (omega arith); before = each-1 _ refl })
+at-34 = (
+  whole-from (ring 34 10) refl,
+  record { column = omega arith; row = omega arith; here = refl; above = λ row h. absurd (omega arith); before = each-1 _ refl },
+)
