@@ -373,6 +373,8 @@ def main():
     five = encode(FIVE)
     files['crates/show/stdin'] = five
     files['crates/show/stdout'] = show(five).encode()
+    files['crates/admit/stdin'] = five
+    files['crates/admit/stdout'] = admit(five).encode()
     files['crates/damaged/stdin'] = five
     files['crates/damaged/stdout'] = damaged(five).encode()
     for name, data in files.items():

@@ -80,12 +80,15 @@ met c x i = northBursts c x (turn c i) + otherSlacks c i
 abbrev pub turningBurst : Content → (ℕ → ℕ) → ℕ → ℕ
 turningBurst c x i = slack c i + up (rate c i * met c x i) (room c (turn c i))
 
+-- a flow that does not turn has its slack
 abbrev pub Straight : Content → (ℕ → ℕ) → Type 0
 Straight c x = (i : ℕ) → i < count c → turns (flow c i) ≡ false → x i ≡ slack c i
 
+-- a flow that turns has at least what its turn asks
 abbrev pub Turning : Content → (ℕ → ℕ) → Type 0
 Turning c x = (i : ℕ) → i < count c → turns (flow c i) ≡ true → turningBurst c x i ≤ x i
 
+-- no burst is larger
 abbrev pub ceiling : ℕ
 ceiling = 131072
 

@@ -2,7 +2,7 @@
 ghost use mathlib.Core.Path.{_≡_};
 ghost use Prim.Native.Nat.{_*_, _≤_, _<_, _^_};
 ghost use Rattle.table.specs.Content.{content};
-ghost use Rattle.bounds.specs.Sums.{flow as flowOf, unitsOf};
+ghost use Rattle.bounds.specs.Sums.{unitsOf};
 ghost use Rattle.bounds.specs.Bounds as bound;
 use crate::groups::Group;
 use crate::groups::bursts_of;

@@ -1,5 +1,4 @@
 // Admission: from a table to a plan.
-ghost use mathlib.Core.Path.{_≡_};
 ghost use Rattle.std.specs.Results.{Cases};
 ghost use Rattle.table.specs.Content.{content};
 ghost use Rattle.bounds.specs.Sums.{unitsOf};

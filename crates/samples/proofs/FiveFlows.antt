@@ -1,6 +1,6 @@
 -- The five flows, and the one hop.
 use mathlib.Core.Path.{refl}
-use mathlib.Core.List.{List, [], _∷_}
+use mathlib.Core.List.{[], _∷_}
 use native.Mathlib.Omega.{arith}
 use Rattle.std.proofs.shelf.Tests.{true≢false, false≢true}
 use Rattle.bounds.specs.Sums.{sum}

@@ -1,11 +1,11 @@
 -- The three flows of the ring.
 use mathlib.Core.Path.{refl}
-use mathlib.Core.List.{List, [], _∷_}
+use mathlib.Core.List.{[], _∷_}
 use Prim.Native.Nat.{ℕ}
 use native.Mathlib.Omega.{arith}
 use Rattle.std.proofs.shelf.Tests.{true≢false}
 use Rattle.bounds.specs.Sums.{sum}
-use Rattle.bounds.specs.Bounds.{backlog, turnDelay, Least-bursts, No-bursts}
+use Rattle.bounds.specs.Bounds.{backlog, turnDelay, Least-bursts}
 use Rattle.plan.specs.declared.refusal.Refusal.the-variants.{Unbounded, Saturated, Shallow}
 use Rattle.plan.specs.Refusals.{Against}
 use Rattle.samples.specs.Tables.{ring}

@@ -1,11 +1,11 @@
 -- Rings of m numbers, and routers by their number.
-use mathlib.Core.Path.{_≡_, refl, sym, ap, _∙_}
+use mathlib.Core.Path.{_≡_, refl, ap, _∙_}
 use mathlib.Core.Logic.{⊎-elim}
 use Prim.Native.Nat.{ℕ, _+_, _-_, _*_, _/_, _%_, _<_, _≤_}
 use native.Mathlib.Omega.{arith}
-use Rattle.std.specs.declared.option.Option.the-variants.{Some, None}
+use Rattle.std.specs.declared.option.Option.the-variants.{Some}
 use Rattle.std.proofs.shelf.Bits.{mod-mul-add, div-mul-add, mod-below, div-below, mul-add-lt, mul-le, div-add-mod'}
-use Rattle.std.proofs.shelf.Tests.{cases-lt, lt-ltb, and-from}
+use Rattle.std.proofs.shelf.Tests.{cases-lt, lt-ltb}
 use Rattle.std.proofs.shelf.Ways.{tells}
 use Rattle.torus.specs.Paths.{next, ahead, routerAt, indexOf}
 

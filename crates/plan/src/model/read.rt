@@ -17,13 +17,6 @@ use torus::hops;
 use torus::index_of;
 
 impl Plan {
-    // The table that was admitted.
-    pub fn table(&self) -> &Table
-        ensures { λ r. ⌜ now r ≡ now (self .entry) .draft .table ⌝ }
-    {
-        &self.draft.table
-    }
-
     // The bounds of flow `k`, counted from 0.
     fn bounds_of(&self, k: usize) -> FlowBounds
         requires { ⌜ k < count (tableOf (now self .draft)) ⌝ }
@@ -66,5 +59,12 @@ impl Plan {
             backlog,
             depth: Packets(backlog.0 + 1),
         })
+    }
+
+    // The table that was admitted.
+    pub fn table(&self) -> &Table
+        ensures { λ r. ⌜ now r ≡ now (self .entry) .draft .table ⌝ }
+    {
+        &self.draft.table
     }
 }

@@ -1,9 +1,9 @@
-use mathlib.Core.Path.{_≡_, sym, _∙_}
+use mathlib.Core.Path.{sym, _∙_}
 use Prim.Native.Nat.{_+_, _-_, _*_}
 use native.Mathlib.Omega.{arith}
 use Rattle.table.specs.Content.{content}
 use Rattle.bounds.specs.Sums.{unitsOf, up}
-use Rattle.bounds.proofs.Delays.{delayAt, delay-turning, delay-straight}
+use Rattle.bounds.proofs.Delays.{delay-turning, delay-straight}
 use Rattle.bounds.proofs.turns.turn_delay.Needs as need
 
 pub returns-in-rest : need.returns-in-rest

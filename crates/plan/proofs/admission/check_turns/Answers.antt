@@ -1,4 +1,4 @@
-use mathlib.Core.Path.{subst, ap}
+use mathlib.Core.Path.{subst}
 use Rattle.table.specs.Content.{content}
 use Rattle.bounds.specs.Bounds.{saturated}
 use Rattle.plan.specs.Order.{None-above}
