@@ -9,10 +9,10 @@ use Rattle.std.proofs.shelf.Tests.{cases-lt, lt-ltb}
 use Rattle.std.proofs.shelf.Ways.{tells}
 use Rattle.torus.specs.Paths.{next, ahead, routerAt, indexOf}
 
-mod-once : (m n : ℕ) → n < m → (n + m) % m ≡ n
+pub mod-once : (m n : ℕ) → n < m → (n + m) % m ≡ n
 mod-once m n h = ap (λ k. k % m) (omega arith) ∙ mod-mul-add 1 m n h
 
-mod-none : (m n : ℕ) → n < m → n % m ≡ n
+pub mod-none : (m n : ℕ) → n < m → n % m ≡ n
 mod-none m n h = ap (λ k. k % m) (omega arith) ∙ mod-mul-add 0 m n h
 
 -- one on, for a number of the ring

@@ -2,6 +2,7 @@
 ghost use mathlib.Core.Path.{_≡_};
 ghost use Prim.Native.Nat.{_<_};
 ghost use Rattle.torus.specs.Paths as path;
+ghost use Rattle.torus.specs.Walks.{Walks-through, Walks-north, Walks-hops};
 use crate::routers::ahead;
 use quantity::Steps;
 use table::Flow;
@@ -30,16 +31,22 @@ pub fn turns_at(flow: &Flow, router: (u8, u8)) -> bool
     turns(flow) && flow.destination.0 == router.0 && flow.source.1 == router.1
 }
 
-// Whether the flow passes the router straight east.
-pub fn through(side: u8, flow: &Flow, router: (u8, u8)) -> bool
+fn is_through(side: u8, flow: &Flow, router: (u8, u8)) -> bool
     ensures { λ r. ⌜ r ≡ path.through side (now (flow .entry)) router ⌝ }
 {
     let east = ahead(side, flow.source.0, router.0);
     flow.source.1 == router.1 && 0 < east && east < ahead(side, flow.source.0, flow.destination.0)
 }
 
-// Whether the flow reaches the router from the north; it may end there.
-pub fn north(side: u8, flow: &Flow, router: (u8, u8)) -> bool
+// Whether the flow passes the router straight east.
+pub fn through(side: u8, flow: &Flow, router: (u8, u8)) -> bool
+    ensures value { λ r. ⌜ r ≡ path.through side (now (flow .entry)) router ⌝ }
+    ensures walk { λ r. ⌜ Walks-through side (now (flow .entry)) router r ⌝ }
+{
+    is_through(side, flow, router)
+}
+
+fn is_north(side: u8, flow: &Flow, router: (u8, u8)) -> bool
     ensures { λ r. ⌜ r ≡ path.north side (now (flow .entry)) router ⌝ }
 {
     let south = ahead(side, flow.source.1, router.1);
@@ -48,12 +55,28 @@ pub fn north(side: u8, flow: &Flow, router: (u8, u8)) -> bool
         && south <= ahead(side, flow.source.1, flow.destination.1)
 }
 
-// The steps of a packet that never waits.
-pub fn hops(side: u8, flow: &Flow) -> Steps
-    ensures value { λ r. ⌜ r .0 ≡ path.hops side (now (flow .entry)) ⌝ }
-    ensures small { λ r. ⌜ r .0 < 1000 ⌝ }
+// Whether the flow reaches the router from the north; it may end there.
+pub fn north(side: u8, flow: &Flow, router: (u8, u8)) -> bool
+    ensures value { λ r. ⌜ r ≡ path.north side (now (flow .entry)) router ⌝ }
+    ensures walk { λ r. ⌜ Walks-north side (now (flow .entry)) router r ⌝ }
+{
+    is_north(side, flow, router)
+}
+
+fn hop_count(side: u8, flow: &Flow) -> u64
+    ensures value { λ r. ⌜ r ≡ path.hops side (now (flow .entry)) ⌝ }
+    ensures small { λ r. ⌜ r < 1000 ⌝ }
 {
     let east = ahead(side, flow.source.0, flow.destination.0);
     let south = ahead(side, flow.source.1, flow.destination.1);
-    Steps(east as u64 + south as u64 + 1)
+    east as u64 + south as u64 + 1
+}
+
+// The steps of a packet that never waits.
+pub fn hops(side: u8, flow: &Flow) -> Steps
+    ensures value { λ r. ⌜ r .0 ≡ path.hops side (now (flow .entry)) ⌝ }
+    ensures walk { λ r. ⌜ Walks-hops side (now (flow .entry)) (r .0) ⌝ }
+    ensures small { λ r. ⌜ r .0 < 1000 ⌝ }
+{
+    Steps(hop_count(side, flow))
 }
