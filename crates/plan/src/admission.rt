@@ -73,10 +73,10 @@ pub(crate) fn check(table: &Table) -> Result<(), Refusal>
     ensures { λ r. ⌜ Cases r (λ _. Sound (content (now (table .entry)))) (Against (content (now (table .entry)))) ⌝ }
 {
     check_turns(table)?;
-    match first_crowded(table) {
-        None => Ok(()),
-        Some(flow) => Err(Refusal::Crowded(flow)),
-    }
+    let Some(flow) = first_crowded(table) else {
+        return Ok(());
+    };
+    Err(Refusal::Crowded(flow))
 }
 
 // Whether a router's queue needs more than the table's depth.

@@ -30,8 +30,8 @@ impl PlanFault {
 pub impl From<Fault> for PlanFault as PlanFaultFromFile {
     ghost converts = { λ x y. y ≡ File x };
 
-    fn from(fault: Fault) -> PlanFault {
-        PlanFault::File(fault)
+    fn from(read: Fault) -> PlanFault {
+        PlanFault::File(read)
     }
 }
 
