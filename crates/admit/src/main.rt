@@ -1,4 +1,6 @@
 // Reads a table file from standard input, and prints its listing: its bounds or why it is refused.
+#![tactic(auto)]
+
 use listing::list;
 use std::io;
 use std::io::{Read, Write};

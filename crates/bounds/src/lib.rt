@@ -1,5 +1,7 @@
 // The bounds of a table's flows: bursts, backlogs, waits, turn delays and latencies.
 // Every call answers for every table, also for one that no plan can have.
+#![tactic(auto)]
+
 mod bursts;
 mod groups;
 mod lines;

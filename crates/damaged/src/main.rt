@@ -1,4 +1,6 @@
 // Reads a good table file from standard input, damages it in many ways, and prints each refusal.
+#![tactic(auto)]
+
 use listing::show;
 use std::io;
 use std::io::{Read, Write};

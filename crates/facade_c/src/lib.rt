@@ -1,4 +1,6 @@
 // What a C program calls; `include/pulgarv.h` declares it.
+#![tactic(auto)]
+
 ghost use Rattle.std.specs.Prelude.{◌≡◌};
 ghost use Rattle.facade_c.specs.Told.{Small, code, Told};
 

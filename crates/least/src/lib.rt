@@ -1,4 +1,6 @@
 // The least entries that meet a system of lines.
+#![tactic(auto)]
+
 ghost use Rattle.std.specs.Prelude.{◌≡◌, ℕ, ◌<◌, length};
 ghost use Rattle.least.specs.Systems.{entries_of, Below, Monotone, Floor, Capped, Raised, Passed, Found, OnLines};
 

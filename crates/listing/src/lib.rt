@@ -1,4 +1,6 @@
 // Lines of text about a table, about a plan, and about a fault.
+#![tactic(auto)]
+
 mod answer;
 mod lines;
 mod plans;

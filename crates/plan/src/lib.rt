@@ -1,4 +1,6 @@
 // Plans: a table with its least bursts and its routers' backlogs, admitted or refused.
+#![tactic(auto)]
+
 mod admission;
 mod backlogs;
 mod checks;

@@ -1,5 +1,7 @@
 // Examples of plans: what they tell, and what refuses them.
 
+#![tactic(auto)]
+
 #[cfg(test)]
 mod tests {
     use plan::{Plan, PlanFault};

@@ -1,4 +1,6 @@
 // The numbers of a table, a plan and a card, each in a struct of its own, and the conversions between them.
+#![tactic(auto)]
+
 ghost use Rattle.std.specs.Prelude.{◌≡◌, ◌*◌};
 
 // A count of network cycles.

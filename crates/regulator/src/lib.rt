@@ -1,4 +1,6 @@
 // Regulators: the clauses that every kind keeps, and banks of any kind.
+#![tactic(auto)]
+
 mod bank;
 mod regulator;
 

@@ -1,4 +1,6 @@
 // The worked samples: what is proved of the rules stands in `statement`; what admission answers is printed here.
+#![tactic(auto)]
+
 use listing::{plan_text, refused_line};
 use plan::Plan;
 use quantity::{Depth, Frame, Packets, Rate};

@@ -1,4 +1,6 @@
 // Reads a table file from standard input, and prints its flows or why it is refused.
+#![tactic(auto)]
+
 use listing::show;
 use std::io;
 use std::io::{Read, Write};

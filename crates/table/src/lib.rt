@@ -1,4 +1,6 @@
 // A building's flow table: its parts, its faults, building it, reading and writing its file.
+#![tactic(auto)]
+
 mod fault;
 mod flow;
 mod model;

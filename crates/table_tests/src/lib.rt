@@ -1,5 +1,7 @@
 // Examples of quantities, and of tables built, written and read.
 
+#![tactic(auto)]
+
 #[cfg(test)]
 mod tests {
     use quantity::{Depth, Frame, Packets, Rate, Units};

@@ -1,4 +1,6 @@
 // Text that is put together in place.
+#![tactic(auto)]
+
 mod buffer;
 
 pub use buffer::Text;
