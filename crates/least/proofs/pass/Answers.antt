@@ -4,7 +4,7 @@ use Rattle.least.proofs.pass.Goals as goal
 
 pub returns-in-err-raised : goal.returns-in-err-raised
 returns-in-err-raised g c =
-    unmet c.args.entries.now c.raise.new.entries c.from-residual.result c.from-residual.ensures.0
+    unmet c.args.entries.now c.raise.new.entries c.from_residual.result c.from_residual.ensures.0
     (refused c.args.entries.now c.loop-i.entries c.loop-i.i c.loop-i.raised
     (g.met.S.System.monotone c.args.system.now) c.loop-i.invariant.0 c.loop-i.invariant.1 (omega (arith, c.requires.long))
     c.in-err-raised.ensures)

@@ -9,9 +9,9 @@ use Rattle.bounds.proofs.waits.rival_rates.Goals as goal
 pub returns : goal.returns
 returns c =
     let t = content c.args.table.now in
-    let flow = c.flow-at-flow.ensures in
+    let flow = c.flow_at-flow.ensures in
     record {
-      value = (λ i. c.rates.ensures.value i + c.outlet-rates.ensures.value i)
+      value = (λ i. c.rates.ensures.value i + c.outlet_rates.ensures.value i)
           ∙ (λ i. over t (is_in t (Client c.args.k (flow i).source)) (rate t) + outlet_rates t (flow i));
-      small = omega (arith, c.rates.ensures.small, c.outlet-rates.ensures.small);
+      small = omega (arith, c.rates.ensures.small, c.outlet_rates.ensures.small);
     }

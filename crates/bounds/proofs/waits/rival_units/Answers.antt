@@ -9,9 +9,9 @@ use Rattle.bounds.proofs.waits.rival_units.Goals as goal
 pub returns : goal.returns
 returns c =
     let t = content c.args.table.now in
-    let flow = c.flow-at-flow.ensures in
+    let flow = c.flow_at-flow.ensures in
     record {
-      value = (λ i. c.slacks.ensures.value i + c.outlet-units.ensures.value i)
+      value = (λ i. c.slacks.ensures.value i + c.outlet_units.ensures.value i)
           ∙ (λ i. over t (is_in t (Client c.args.k (flow i).source)) (slack t) + outlet_units t (units_of c.args.bursts.now) (flow i));
-      small = omega (arith, c.slacks.ensures.small, c.outlet-units.ensures.small);
+      small = omega (arith, c.slacks.ensures.small, c.outlet_units.ensures.small);
     }

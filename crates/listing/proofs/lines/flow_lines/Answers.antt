@@ -13,9 +13,9 @@ loop-i-preserved c =
     let s = said c.loop-i.text in
     let rest = flow_lines ((i + 1) + 1) (drop (i + 1) fs) in
     let next = at_drop_more (flow_lines (i + 1)) fs i blank (omega arith) in (
-      ap (λ u. clipped (u ++ rest)) c.flow-line.ensures.says
+      ap (λ u. clipped (u ++ rest)) c.flow_line.ensures.says
           ∙ (clipped_more s (flow_line (i + 1) (get_or fs i blank)) rest ∙ (ap (λ r. clipped (s ++ r)) (sym next) ∙ c.loop-i.invariant.0)),
-      below_more _ i c.loop-i.invariant.1 c.flow-line.ensures.small,
+      below_more _ i c.loop-i.invariant.1 c.flow_line.ensures.small,
     )
 
 pub returns : goal.returns

@@ -7,5 +7,5 @@ pub returns : goal.returns
 returns c =
     let f = c.args.fault in
     three (codes "refused " ++ decimal f.number) (place_words f.place) (codes "\n") c.new-text.ensures
-    c.labelled.ensures.says c.place-words.ensures.says c.put.ensures.says
-    (refused_short f (omega arith) c.place-words.ensures.small)
+    c.labelled.ensures.says c.place_words.ensures.says c.put.ensures.says
+    (refused_short f (omega arith) c.place_words.ensures.small)

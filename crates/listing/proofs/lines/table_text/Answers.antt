@@ -8,7 +8,7 @@ pub returns : goal.returns
 returns c =
     let k = content c.args.table.now in
     three (torus_line k.dimensions) (flow_lines 1 k.flows) (count_line (length k.flows)) c.new-text.ensures
-    (rw c.dimensions.ensures at c.torus-line.ensures.says)
-    (rw c.flows.ensures at c.flow-lines.ensures.says)
-    (rw c.flows-2.ensures at c.count-line.ensures)
-    (table_short k (rw c.dimensions.ensures at c.torus-line.ensures.small) (rw c.flows.ensures at c.flow-lines.ensures.small) (simp length-take (omega arith)))
+    (rw c.dimensions.ensures at c.torus_line.ensures.says)
+    (rw c.flows.ensures at c.flow_lines.ensures.says)
+    (rw c.flows-2.ensures at c.count_line.ensures)
+    (table_short k (rw c.dimensions.ensures at c.torus_line.ensures.small) (rw c.flows.ensures at c.flow_lines.ensures.small) (simp length-take (omega arith)))

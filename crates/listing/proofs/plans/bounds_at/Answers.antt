@@ -16,6 +16,6 @@ returns c =
     let told = flow_told_lem (table_of d) (bursts_of d) k c.flow.result b c.requires c.flow.ensures.value c.unwrap-bounds.ensures in
     let small = subst FlowSmall c.unwrap-bounds.ensures c.flow.ensures.small in
     record {
-      says = c.bounds-line.ensures ∙ ap (λ e. clipped (said c.args.text.now ++ bounds_line (k + 1) e)) told;
+      says = c.bounds_line.ensures ∙ ap (λ e. clipped (said c.args.text.now ++ bounds_line (k + 1) e)) told;
       small = subst (λ e. length (bounds_line (k + 1) e) ≤ 88) told (bounds_short (k + 1) b (omega (arith, c.requires, count_few d.table)) small);
     }

@@ -5,4 +5,4 @@ pub loop-k-init : goal.loop-k-init
 loop-k-init c = lined_none _ _ _
 
 pub loop-k-preserved : goal.loop-k-preserved
-loop-k-preserved c = lined_more _ _ _ _ _ _ c.loop-k.invariant c.bounds-at.ensures.says c.bounds-at.ensures.small
+loop-k-preserved c = lined_more _ _ _ _ _ _ c.loop-k.invariant c.bounds_at.ensures.says c.bounds_at.ensures.small

@@ -18,8 +18,8 @@ returns c =
     let dimensions = c.dimensions.ensures ∙ ap (λ u. u.dimensions) c.table.ensures in
     let number = ap length c.flows.ensures ∙ ap (λ u. count (content u)) c.table-2.ensures in
     four (torus_line t.dimensions) (bounds_lines t x) (queue_lines t x) (admitted_line (count t)) c.new-text.ensures
-    (c.torus-line.ensures.says ∙ ap (λ e. clipped (said c.new-text.result ++ torus_line e)) dimensions)
-    c.bounds-lines.ensures.says
-    c.queue-lines.ensures.says
-    (c.admitted-line.ensures ∙ ap (λ n. clipped (said c.queue-lines.new.text ++ admitted_line n)) number)
-    (plan_short t x (subst DimensionsSmall dimensions c.torus-line.ensures.small) (count_few d.table) c.bounds-lines.ensures.small c.queue-lines.ensures.small)
+    (c.torus_line.ensures.says ∙ ap (λ e. clipped (said c.new-text.result ++ torus_line e)) dimensions)
+    c.bounds_lines.ensures.says
+    c.queue_lines.ensures.says
+    (c.admitted_line.ensures ∙ ap (λ n. clipped (said c.queue_lines.new.text ++ admitted_line n)) number)
+    (plan_short t x (subst DimensionsSmall dimensions c.torus_line.ensures.small) (count_few d.table) c.bounds_lines.ensures.small c.queue_lines.ensures.small)

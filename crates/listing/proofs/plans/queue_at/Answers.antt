@@ -21,7 +21,7 @@ returns-then-bounds c =
     let small = subst RouterSmall c.unwrap-bounds.ensures c.router.ensures.small in
     let most = side_le (table_of d) c.args.plan.now.ranged in
     record {
-      says = c.queue-line.ensures ∙ ap (λ l. clipped (said c.args.text.now ++ l)) line;
+      says = c.queue_line.ensures ∙ ap (λ l. clipped (said c.args.text.now ++ l)) line;
       small = subst (λ l. length l ≤ 33) line (queue_short r b (omega (arith, c.requires.column, most)) (omega (arith, c.requires.row, most)) small);
     }
 

@@ -5,4 +5,4 @@ pub loop-y-init : goal.loop-y-init
 loop-y-init c = lined_none _ _ _
 
 pub loop-y-preserved : goal.loop-y-preserved
-loop-y-preserved c = lined_more _ _ _ _ _ _ c.loop-y.invariant c.queue-row.ensures.says c.queue-row.ensures.small
+loop-y-preserved c = lined_more _ _ _ _ _ _ c.loop-y.invariant c.queue_row.ensures.says c.queue_row.ensures.small

@@ -10,7 +10,7 @@ pub loop-x-init : goal.loop-x-init
 loop-x-init c = lined_none _ _ _
 
 pub loop-x-preserved : goal.loop-x-preserved
-loop-x-preserved c = lined_more _ _ _ _ _ _ c.loop-x.invariant c.queue-at.ensures.says c.queue-at.ensures.small
+loop-x-preserved c = lined_more _ _ _ _ _ _ c.loop-x.invariant c.queue_at.ensures.says c.queue_at.ensures.small
 
 pub returns : goal.returns
 returns c =

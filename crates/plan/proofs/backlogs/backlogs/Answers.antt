@@ -7,11 +7,11 @@ pub loop-k-preserved : goal.loop-k-preserved
 loop-k-preserved c =
     let k = c.loop-k.k in
     let ps = c.loop-k.packets in
-    let p = c.backlog-at.result in
+    let p = c.backlog_at.result in
     let none : Packets = record { 0 = 0 } in
     let in-k : k < length ps = omega (arith, c.loop-k.invariant.0) in (
       length-set ps k p ∙ c.loop-k.invariant.0,
       below_more _ _
           (λ j h. let ne : j ≢ k = omega arith in ap (λ (q : Packets). q.0) (get_or-set_other ps k j p none ne) ∙ c.loop-k.invariant.1 j h)
-          (ap (λ (q : Packets). q.0) (get_or-set_same ps k p none in-k) ∙ c.backlog-at.ensures),
+          (ap (λ (q : Packets). q.0) (get_or-set_same ps k p none in-k) ∙ c.backlog_at.ensures),
     )

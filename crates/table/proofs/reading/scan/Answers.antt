@@ -13,17 +13,17 @@ use Rattle.table.proofs.reading.scan.Goals.{In-ok-inspect-2}
 pub loop-table-init : goal.loop-table-init
 loop-table-init c =
     let bs = c.args.bytes.now in
-    subst (Begun bs) (sym (c.new-table.ensures ∙ ap (λ d. record { dimensions = d; flows = _ }) c.dimensions-of.ensures)) (begun_none bs c.in-ok-inspect.field-0 (λ i. (c.type-inv.bytes i).fits) c.in-ok-inspect.ensures)
+    subst (Begun bs) (sym (c.new-table.ensures ∙ ap (λ d. record { dimensions = d; flows = _ }) c.dimensions_of.ensures)) (begun_none bs c.in-ok-inspect.field-0 (λ i. (c.type-inv.bytes i).fits) c.in-ok-inspect.ensures)
 
 pub returns-in-err-inspect : goal.returns-in-err-inspect
 returns-in-err-inspect c =
-    let p = err_from_is_err_and c.from-residual.result c.from-residual.ensures.1 in
+    let p = err_from_is_err_and c.from_residual.result c.from_residual.ensures.1 in
     rw (p.1, p.2) (at_head c.in-err-inspect.ensures)
 
 pub returns-in-err-inspect-2 : goal.returns-in-err-inspect-2
 returns-in-err-inspect-2 c =
     let bs = c.args.bytes.now in
-    let p = err_from_is_err_and c.from-residual-in-err-inspect-2.result c.from-residual-in-err-inspect-2.ensures.1 in
+    let p = err_from_is_err_and c.from_residual-in-err-inspect-2.result c.from_residual-in-err-inspect-2.ensures.1 in
     let t = content c.loop-table.table in
     let h = at_start (λ at q. Broken at q c.in-err-inspect-2.field-0.0) bs t c.flows.result.now c.flows.ensures c.in-err-inspect-2.ensures in
     rw (p.1, p.2) (begun_wrong bs t c.loop-table.invariant (broken h))
@@ -43,13 +43,13 @@ returns-in-Err c =
 pub loop-table-smaller : goal.loop-table-smaller
 loop-table-smaller c =
     let grown = ap (λ d. length d.flows) c.in-default.ensures.1 in
-    omega (arith, c.in-default.ensures.0, grown ∙ length_push (content c.loop-table.table).flows c.flow-of.result)
+    omega (arith, c.in-default.ensures.0, grown ∙ length_push (content c.loop-table.table).flows c.flow_of.result)
 
 pub loop-table-preserved : goal.loop-table-preserved
 loop-table-preserved c =
     let bs = c.args.bytes.now in
     let t = content c.loop-table.table in
-    let f = at_start (λ at q. c.flow-of.result ≡ flow_of q) bs t c.flows.result.now c.flows.ensures c.flow-of.ensures in
+    let f = at_start (λ at q. c.flow_of.result ≡ flow_of q) bs t c.flows.result.now c.flows.ensures c.flow_of.ensures in
     let next = begun_more bs t c.loop-table.invariant (λ i. (c.type-inv.bytes i).fits) c.in-default.ensures.0 (rw c.in-Flow.is at (whole_here (goal.at.loop-table-preserved c).In-ok-inspect-2)) in
     subst (Begun bs) {y = content c.add.new.self} (sym (c.in-default.ensures.1 ∙ ap (pushed t) f)) next
 

@@ -6,4 +6,4 @@ pub returns : goal.returns
 returns c =
     let n = length c.args.part.now in
     let e : (c.args.at + n) - c.args.at ≡ n = omega arith in
-    rw (c.copy-from-slice.ensures.after, e, drop-drop)
+    rw (c.copy_from_slice.ensures.after, e, drop-drop)

@@ -18,7 +18,7 @@ loop-i-preserved c =
     let short : length (take i fs) ≡ i = length-take-le i fs (omega arith) in
     let long : 8 + 12 * i ≡ 8 + length done = omega (arith, length_flows (take i fs)) in
     let next = flows_more fs i blank (omega arith) in
-    rw (c.put.ensures, c.loop-i.invariant, c.flow-record.ensures, next)
+    rw (c.put.ensures, c.loop-i.invariant, c.flow_record.ensures, next)
     (put_put 8 (8 + 12 * i) done (flow_record (get_or fs i blank)) c.args.place.now long (omega arith))
 
 pub returns : goal.returns

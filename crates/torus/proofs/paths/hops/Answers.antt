@@ -7,5 +7,5 @@ pub returns : goal.returns
 returns c =
     let m = c.args.side in
     let f = c.args.flow.now in
-    let value = c.hop-count.ensures.value in
-    record { value = value; walk = subst (WalksHops m f) (sym value) (walks_hops m f); small = c.hop-count.ensures.small }
+    let value = c.hop_count.ensures.value in
+    record { value = value; walk = subst (WalksHops m f) (sym value) (walks_hops m f); small = c.hop_count.ensures.small }

@@ -8,4 +8,4 @@ returns c =
     let m = c.args.side in
     let f = c.args.flow.now in
     let r = c.args.router in
-    record { value = c.is-north.ensures; walk = subst (WalksNorth m f r) (sym c.is-north.ensures) (walks_north m f r) }
+    record { value = c.is_north.ensures; walk = subst (WalksNorth m f r) (sym c.is_north.ensures) (walks_north m f r) }

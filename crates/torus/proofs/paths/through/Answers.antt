@@ -8,4 +8,4 @@ returns c =
     let m = c.args.side in
     let f = c.args.flow.now in
     let r = c.args.router in
-    record { value = c.is-through.ensures; walk = subst (WalksThrough m f r) (sym c.is-through.ensures) (walks_through m f r) }
+    record { value = c.is_through.ensures; walk = subst (WalksThrough m f r) (sym c.is_through.ensures) (walks_through m f r) }

@@ -11,5 +11,5 @@ returns-then-a-b c =
 
 pub returns-else-a-b : goal.returns-else-a-b
 returns-else-a-b c =
-    let value : c.saturating-sub.result ≡ ahead c.args.side c.args.a c.args.b = grind (arith, nat_tests) in
+    let value : c.saturating_sub.result ≡ ahead c.args.side c.args.a c.args.b = grind (arith, nat_tests) in
     record { value = value; ring = λ h l. value ∙ ahead_ring c.args.side c.args.a c.args.b h l }

@@ -10,9 +10,9 @@ use Rattle.bounds.proofs.lines.build.line_of.Goals as goal
 pub returns : goal.returns
 returns c x =
     let t = content c.args.table.now in
-    let f = c.flow-at-flow.result in
+    let f = c.flow_at-flow.result in
     let r = c.in-Some.router in
     let own = c.slack-slack.ensures ∙ (λ i. f.burst.0 * (c.dimensions.ensures i).frame.0 - f.rate.0) in
     let north : from_north c.members.result (count t) x ≡ north_bursts t x r = sum_same (count t) _ _ (λ k h. ap (λ b. cond b (x k) 0) (c.members.ensures.each k h)) in
     (λ i. own i + up (f.rate.0 * (north i + c.slacks.ensures.value i)) (c.room.ensures.value i))
-    ∙ burst_turning t x c.args.k f r c.flow-at-flow.ensures c.in-Some.ensures
+    ∙ burst_turning t x c.args.k f r c.flow_at-flow.ensures c.in-Some.ensures

@@ -7,7 +7,7 @@ use Rattle.plan.proofs.model.Plan.empty.Goals as goal
 
 pub complete-requires : goal.complete-requires
 complete-requires c =
-    let none = is_empty (content c.no-flows.result) c.no-flows.ensures in
+    let none = is_empty (content c.no_flows.result) c.no_flows.ensures in
     record {
       sound = none.sound;
       least = none.least _;

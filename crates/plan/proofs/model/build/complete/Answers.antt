@@ -3,8 +3,8 @@ use Rattle.bounds.specs.Sums.{units_of}
 use Rattle.plan.proofs.Filled.{deep_from, backlogs_from, over_from}
 use Rattle.plan.proofs.model.build.complete.Goals as goal
 
-pub invariant-of-result : goal.invariant-of-result
-invariant-of-result c =
+pub invariant_of-result : goal.invariant_of-result
+invariant_of-result c =
     let t = content c.args.table.now in
     let x = units_of c.args.bursts in
     let sound = c.requires.sound in

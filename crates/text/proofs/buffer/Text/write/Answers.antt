@@ -15,14 +15,14 @@ written bs p q k m n whole few e copied =
     take-put_mid m k bs q (m + n) some (omega arith)
     ∙ (ap (λ r. take m bs ++ r) (copied ∙ ap (λ j. take j p) same) ∙ clipped_part (take m bs) p (omega arith))
 
-pub invariant-of-self : goal.invariant-of-self
-invariant-of-self c =
+pub invariant_of-self : goal.invariant_of-self
+invariant_of-self c =
     let full = length-take-le c.args.self.now.len c.args.self.now.bytes (omega arith) in
-    (search (rules, places), (omega arith, tt))
+    record { whole = search (rules, places); few = omega arith }
 
 pub returns : goal.returns
 returns c =
     let t = c.args.self.now in
     let p = c.args.part.now in
-    let says = written t.bytes p c.copy-from-slice.new.self _ t.len c.args.n t.whole t.few c.requires c.copy-from-slice.ensures.after in
+    let says = written t.bytes p c.copy_from_slice.new.self _ t.len c.args.n t.whole t.few c.requires c.copy_from_slice.ensures.after in
     record { says = says; joins = λ s a h. joined s a p h says }
