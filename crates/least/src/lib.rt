@@ -34,9 +34,9 @@ pub struct Unmet;
 
 // Raises entry `i` to its line if it is below it, and answers whether it was.
 fn raise<S: System>(system: &S, entries: &mut [u32], i: usize) -> Result<bool, Unmet>
-    requires long { length entries.old ≡ lines system.now }
-    requires within { i < lines system.now }
-    ensures { Raised (line system.now (entries_of entries.old) i) (ceiling system.now i) entries.old i entries.new result }
+    requires long { length entries.old ≡ S.lines system.now }
+    requires within { i < S.lines system.now }
+    ensures { Raised (S.line system.now (entries_of entries.old) i) (S.ceiling system.now i) entries.old i entries.new result }
 {
     let Some(least) = system.evaluate(entries, i) else {
         return Err(Unmet);
@@ -50,10 +50,10 @@ fn raise<S: System>(system: &S, entries: &mut [u32], i: usize) -> Result<bool, U
 
 // Raises each entry that is below its line to its line, and answers whether there was one.
 pub fn pass<S: System>(system: &S, entries: &mut [u32]) -> Result<bool, Unmet>
-    requires long { length entries.old ≡ lines system.now }
-    requires below { Below (lines system.now) (entries_of entries.old) (ceiling system.now) }
-    requires floor { Floor (lines system.now) (line system.now) (ceiling system.now) (entries_of entries.old) }
-    ensures { Passed (lines system.now) (line system.now) (ceiling system.now) entries.old entries.new result }
+    requires long { length entries.old ≡ S.lines system.now }
+    requires below { Below (S.lines system.now) (entries_of entries.old) (S.ceiling system.now) }
+    requires floor { Floor (S.lines system.now) (S.line system.now) (S.ceiling system.now) (entries_of entries.old) }
+    ensures { Passed (S.lines system.now) (S.line system.now) (S.ceiling system.now) entries.old entries.new result }
 {
     let mut raised = false;
     for i in 0..entries.len() {
@@ -64,10 +64,10 @@ pub fn pass<S: System>(system: &S, entries: &mut [u32]) -> Result<bool, Unmet>
 
 // Passes until one raises nothing.
 fn climb<S: System>(system: &S, entries: &mut [u32]) -> Result<(), Unmet>
-    requires long { length entries.old ≡ lines system.now }
-    requires below { Below (lines system.now) (entries_of entries.old) (ceiling system.now) }
-    requires floor { Floor (lines system.now) (line system.now) (ceiling system.now) (entries_of entries.old) }
-    ensures { Found (lines system.now) (line system.now) (ceiling system.now) entries.old entries.new result }
+    requires long { length entries.old ≡ S.lines system.now }
+    requires below { Below (S.lines system.now) (entries_of entries.old) (S.ceiling system.now) }
+    requires floor { Floor (S.lines system.now) (S.line system.now) (S.ceiling system.now) (entries_of entries.old) }
+    ensures { Found (S.lines system.now) (S.line system.now) (S.ceiling system.now) entries.old entries.new result }
 {
     while pass(system, entries)? {}
     Ok(())
@@ -75,11 +75,11 @@ fn climb<S: System>(system: &S, entries: &mut [u32]) -> Result<(), Unmet>
 
 // Raises entries that are at or below every solution to the least solution.
 pub fn search<S: System>(system: &S, entries: &mut [u32]) -> Result<(), Unmet>
-    requires long { length entries.old ≡ lines system.now }
-    requires below { Below (lines system.now) (entries_of entries.old) (ceiling system.now) }
-    requires floor { Floor (lines system.now) (line system.now) (ceiling system.now) (entries_of entries.old) }
-    ensures found { Found (lines system.now) (line system.now) (ceiling system.now) entries.old entries.new result }
-    ensures on_lines { OnLines (lines system.now) (line system.now) entries.new result }
+    requires long { length entries.old ≡ S.lines system.now }
+    requires below { Below (S.lines system.now) (entries_of entries.old) (S.ceiling system.now) }
+    requires floor { Floor (S.lines system.now) (S.line system.now) (S.ceiling system.now) (entries_of entries.old) }
+    ensures found { Found (S.lines system.now) (S.line system.now) (S.ceiling system.now) entries.old entries.new result }
+    ensures on_lines { OnLines (S.lines system.now) (S.line system.now) entries.new result }
 {
     climb(system, entries)
 }

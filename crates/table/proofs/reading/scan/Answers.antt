@@ -13,7 +13,7 @@ use Rattle.table.proofs.reading.scan.Goals.{In-ok-inspect-2}
 pub loop-table-init : goal.loop-table-init
 loop-table-init c =
     let bs = c.args.bytes.now in
-    subst (Begun bs) (sym (c.new-table.ensures ∙ ap (λ d. record { dimensions = d; flows = _ }) c.dimensions_of.ensures)) (begun_none bs c.in-ok-inspect.field-0 (λ i. (c.type-inv.bytes i).fits) c.in-ok-inspect.ensures)
+    subst (Begun bs) (sym (c.new-table.ensures ∙ ap (λ d. record { dimensions = d; flows = _ }) c.dimensions_of.ensures)) (begun_none bs c.in-ok-inspect.field-0 (λ i. (c.type_inv.bytes i).fits) c.in-ok-inspect.ensures)
 
 pub returns-in-err-inspect : goal.returns-in-err-inspect
 returns-in-err-inspect c =
@@ -50,7 +50,7 @@ loop-table-preserved c =
     let bs = c.args.bytes.now in
     let t = content c.loop-table.table in
     let f = at_start (λ at q. c.flow_of.result ≡ flow_of q) bs t c.flows.result.now c.flows.ensures c.flow_of.ensures in
-    let next = begun_more bs t c.loop-table.invariant (λ i. (c.type-inv.bytes i).fits) c.in-default.ensures.0 (rw c.in-Flow.is at (whole_here (goal.at.loop-table-preserved c).In-ok-inspect-2)) in
+    let next = begun_more bs t c.loop-table.invariant (λ i. (c.type_inv.bytes i).fits) c.in-default.ensures.0 (rw c.in-Flow.is at (whole_here (goal.at.loop-table-preserved c).In-ok-inspect-2)) in
     subst (Begun bs) {y = content c.add.new.self} (sym (c.in-default.ensures.1 ∙ ap (pushed t) f)) next
 
 pub returns-in-End : goal.returns-in-End
@@ -58,4 +58,4 @@ returns-in-End c =
     let bs = c.args.bytes.now in
     let t = content c.loop-table.table in
     let h = at_start (λ at q. Ended c.loop-table.table at q c.finish.result) bs t c.flows.result.now c.flows.ensures c.finish.ensures in
-    begun_end bs t c.loop-table.invariant c.loop-table.table c.finish.result refl (λ i. (c.type-inv.bytes i).fits) (rw c.in-End.is at (whole_here (goal.at.returns-in-End c).In-ok-inspect-2)) h
+    begun_end bs t c.loop-table.invariant c.loop-table.table c.finish.result refl (λ i. (c.type_inv.bytes i).fits) (rw c.in-End.is at (whole_here (goal.at.returns-in-End c).In-ok-inspect-2)) h
