@@ -1,6 +1,7 @@
 mod Splits
 mod Prefixes
 mod Same
+mod Equal
 mod Unique
 mod Places
 mod Laws

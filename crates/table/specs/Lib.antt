@@ -4,3 +4,4 @@ pub mod Format
 pub mod Reading
 pub mod Inspecting
 pub mod Writing
+pub mod Equal

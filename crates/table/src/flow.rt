@@ -2,7 +2,6 @@
 ghost use Rattle.std.specs.Prelude.{◌≡◌, Decides};
 ghost use Rattle.std.specs.Cmp.Rules.{comparing};
 ghost use Rattle.std.proofs.Common.{rules};
-ghost use Rattle.std.specs.Cmp as Keys;
 
 use quantity::{Depth, Frame, Packets, Rate};
 
@@ -25,11 +24,16 @@ pub struct Flow {
 
 // Derived, it would not be said in the form that a comparison of slices builds on.
 impl PartialEq for Flow {
-    ghost equals = { λ a b r. Decides r (a ≡ b) };
+    ghost use Rattle.table.specs.Equal.{same_flow};
 
-    ghost laws = { Keys.partial_equiv_from_equiv (Prim.search (comparing, rules)) };
+    ghost eq = { same_flow };
 
-    fn eq(&self, other: &Flow) -> bool {
+    ghost laws = { Prim.search (comparing, rules) };
+
+    fn eq(&self, other: &Flow) -> bool
+        ensures parts { result ≡ same_flow self.now other.now }
+        ensures same { Decides result (self.now ≡ other.now) }
+    {
         self.source == other.source
             && self.destination == other.destination
             && self.burst == other.burst

@@ -4,9 +4,9 @@ use Rattle.bounds.specs.Sums.{units_of, up}
 use Rattle.bounds.proofs.Delays.{delay_turning, delay_straight}
 use Rattle.bounds.proofs.turns.turn_delay.Goals as goal
 
-pub returns-in-default : goal.returns-in-default
-returns-in-default c = record {
-  value = sym (delay_straight (content c.args.table.now) (units_of c.args.bursts.now) c.args.k c.flow_at-flow.result c.flow_at-flow.ensures c.in-default.ensures);
+pub returns-in_default : goal.returns-in_default
+returns-in_default c = record {
+  value = sym (delay_straight (content c.args.table.now) (units_of c.args.bursts.now) c.args.k c.flow_at-flow.result c.flow_at-flow.ensures c.in_default.ensures);
   small = omega arith;
 }
 

@@ -9,6 +9,6 @@ pub returns-in-None : goal.returns-in-None
 returns-in-None c =
     let t = content c.args.table.now in
     record {
-      whole = c.in-ok-check_flows.ensures;
+      whole = c.in_ok-check_flows.ensures;
       turns = nowhere t.dimensions.side (saturated t) (subst (λ d. NoneAbove d.side (saturated t) d.side) c.dimensions.ensures c.in-None.ensures);
     }

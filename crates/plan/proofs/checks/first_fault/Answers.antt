@@ -28,5 +28,5 @@ returns-in-Some c =
 pub loop-k-preserved : goal.loop-k-preserved
 loop-k-preserved c =
     let t = content c.args.table.now in
-    let none = sym (here (goal.at.loop-k-preserved c).After-fault_of) ∙ c.in-default.is in
+    let none = sym (here (goal.at.loop-k-preserved c).After-fault_of) ∙ c.in_default.is in
     below_more _ _ c.loop-k.invariant (fits (side t) (frame t) (flow t c.loop-k.k) none)

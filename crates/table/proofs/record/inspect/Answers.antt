@@ -4,8 +4,8 @@ use Rattle.table.proofs.record.inspect.Goals as goal
 
 pub returns-then-word-length : goal.returns-then-word-length
 returns-then-word-length c =
-    missized (search rules) c.in-ok-kind.kind c.in-ok-kind.ensures (search rules)
+    missized (search rules) c.in_ok-kind.kind c.in_ok-kind.ensures (search rules)
 
 pub returns-then-rest-length : goal.returns-then-rest-length
 returns-then-rest-length c =
-    cut (search rules) c.in-ok-kind.kind c.in-ok-kind.ensures (search rules) (search rules)
+    cut (search rules) c.in_ok-kind.kind c.in_ok-kind.ensures (search rules) (search rules)

@@ -12,7 +12,7 @@ complete-requires c =
     let found = c.in-Ok.ensures in
     let test = shallow t (units_of c.in-Ok.bursts) in
     record {
-      sound = c.in-ok-check.ensures;
+      sound = c.in_ok-check.ensures;
       least = found.1;
       long = found.0;
       ends = found.2;
