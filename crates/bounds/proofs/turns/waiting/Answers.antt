@@ -3,8 +3,8 @@ use Rattle.std.proofs.lemmas.Nat.{mul-le}
 use Rattle.bounds.specs.Bounds.{backlog}
 use Rattle.bounds.proofs.turns.waiting.Goals as goal
 
-pub overflow-add-units : goal.overflow-add-units
-overflow-add-units c =
+pub overflow_add-units : goal.overflow_add-units
+overflow_add-units c =
     let product = mul-le c.rates-turning.result c.bursts_of-from_north.result 4194240 274877906880 (omega (arith, c.rates-turning.ensures.small)) (omega (arith, c.bursts_of-from_north.ensures.small)) in
     omega (arith, product, c.divide-late.ensures.small, c.slacks.ensures.small)
 
