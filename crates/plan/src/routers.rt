@@ -12,7 +12,7 @@ pub(crate) trait RouterTest {
 
 // The first router, row by row, that the test holds of.
 pub(crate) fn first_router<T: RouterTest>(side: u8, test: &T) -> Option<(u8, u8)>
-    ensures { MatchOption result (NoneAbove side (holds test.now) side) (FirstRouter side (holds test.now)) }
+    ensures { MatchOption result (NoneAbove side (T.holds test.now) side) (FirstRouter side (T.holds test.now)) }
 {
     let mut found = None;
     'rows: for y in 0..side {

@@ -9,7 +9,7 @@ use Rattle.plan.proofs.checks.first_fault.Goals as goal
 use Rattle.plan.proofs.checks.first_fault.Goals.{After-fault_of}
 
 -- the fault that was looked for is that of flow k of the table
-here : (c : After-fault-of) → c.fault_of.result ≡ fault_at (content c.args.table.now) c.loop-k.k
+here : (c : After-fault_of) → c.fault_of.result ≡ fault_at (content c.args.table.now) c.loop-k.k
 here c =
     let d = c.dimensions-dimensions.ensures in
     c.fault_of.ensures ∙ (λ i. flow_fault (d i).side (d i).frame.0 (get_or (c.flows-flow-items.ensures i) c.loop-k.k blank))

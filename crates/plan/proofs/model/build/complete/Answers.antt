@@ -12,40 +12,19 @@ invariant_of-result c =
     let keeps = c.requires.least.keeps in
     let deep = deep_from t x c.requires.deep in
     let ps = c.backlogs-backlogs.result in
-    let ensures = c.backlogs-backlogs.ensures in (
-      (c.requires.long, ensures.long),
-      (
-        whole.ranged,
-        (
-          whole.flows,
-          (
-            sound.roomy.turns,
-            (
-              sound.sources,
-              (
-                keeps.straight,
-                (
-                  keeps.turning,
-                  (
-                    keeps.capped,
-                    (
-                      c.requires.least.minimal,
-                      (
-                        c.requires.ends,
-                        (
-                          backlogs_from t x whole.ranged ps ensures.long ensures.each deep,
-                          (
-                            over_from t x whole.ranged ps ensures.long ensures.each,
-                            (deep, tt),
-                          ),
-                        ),
-                      ),
-                    ),
-                  ),
-                ),
-              ),
-            ),
-          ),
-        ),
-      ),
-    )
+    let ensures = c.backlogs-backlogs.ensures in
+    record {
+      long = (c.requires.long, ensures.long);
+      ranged = whole.ranged;
+      faultless = whole.flows;
+      roomy = sound.roomy.turns;
+      calm = sound.sources;
+      straight = keeps.straight;
+      turning = keeps.turning;
+      capped = keeps.capped;
+      minimal = c.requires.least.minimal;
+      ends = c.requires.ends;
+      backlogs = backlogs_from t x whole.ranged ps ensures.long ensures.each deep;
+      over = over_from t x whole.ranged ps ensures.long ensures.each;
+      deep = deep;
+    }
