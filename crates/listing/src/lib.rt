@@ -58,6 +58,7 @@ flow 4 from 2 1 to 2 2 burst 1 rate 100
 flow 5 from 1 2 to 2 1 burst 1 rate 100
 flows 5
 "
+                    .as_slice()
         );
         Ok(())
     }
@@ -79,6 +80,7 @@ router 2 1 backlog 2 depth 3
 router 2 2 backlog 1 depth 2
 admitted 5
 "
+                    .as_slice()
         );
         Ok(())
     }
@@ -86,7 +88,7 @@ admitted 5
     #[test]
     fn a_plan_without_flows(rt: HostRuntime) {
         let text = plan_text(&Plan::empty());
-        assert!(rt; text.as_bytes() == b"torus 2 depth 1 frame 2\nadmitted 0\n");
+        assert!(rt; text.as_bytes() == b"torus 2 depth 1 frame 2\nadmitted 0\n".as_slice());
     }
 
     #[test]

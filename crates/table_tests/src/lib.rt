@@ -66,7 +66,7 @@ mod tests {
         assert!(rt; table.file_length() == 26);
         assert!(rt; table.write(&mut place).ok().ok_or("refused")? == 26);
         assert!(rt; &place[0..26] == FILE);
-        assert!(rt; &place[26..30] == &[170u8; 4]);
+        assert!(rt; &place[26..30] == [170u8; 4].as_slice());
         Ok(())
     }
 
@@ -89,12 +89,9 @@ mod tests {
 
     #[test]
     fn read_back(rt: HostRuntime) -> Result<(), Fail> {
-        let Ok(table) = Table::read(FILE) else {
-            assert!(rt; false, "refused");
-            return Ok(());
-        };
+        let table = Table::read(FILE).ok().ok_or("refused")?;
         assert!(rt; table.dimensions() == DIMENSIONS);
-        assert!(rt; table.flows() == &[FLOW]);
+        assert!(rt; table.flows() == [FLOW].as_slice());
         assert!(rt; table == one_flow()?);
         assert!(rt; table != Table::new(DIMENSIONS));
         Ok(())
