@@ -68,15 +68,9 @@ mod tests {
         assert!(rt; tells_flow_4(&plan));
         assert!(rt; plan.flow(0).is_none());
         assert!(rt; plan.flow(6).is_none());
-        let Some(turn) = plan.router((2, 1)) else {
-            assert!(rt; false, "no router 2 1");
-            return Ok(());
-        };
+        let turn = plan.router((2, 1)).ok_or("no router 2 1")?;
         assert!(rt; turn.turns && turn.backlog.0 == 2 && turn.depth.0 == 3);
-        let Some(other) = plan.router((0, 0)) else {
-            assert!(rt; false, "no router 0 0");
-            return Ok(());
-        };
+        let other = plan.router((0, 0)).ok_or("no router 0 0")?;
         assert!(rt; !other.turns && other.backlog.0 == 0 && other.depth.0 == 1);
         assert!(rt; plan.router((3, 0)).is_none());
         assert!(rt; plan.router((0, 3)).is_none());
@@ -165,16 +159,13 @@ mod tests {
             place: Place::Byte(0),
         };
         let mut plan = Plan::empty();
-        let Err(found) = plan.load(b"") else {
-            assert!(rt; false, "an empty file is loaded");
-            return Ok(());
-        };
+        let found = plan.load(b"").err().ok_or("an empty file is loaded")?;
         assert!(rt; found == PlanFault::File(fault));
         assert!(rt; found.whole() == fault);
-        let Err(found) = plan.load(b"\x04\0\x01\0\x01\x08\x90\x01\x02\0\x03\0\0\0") else {
-            assert!(rt; false, "a side of 1 is admitted");
-            return Ok(());
-        };
+        let found = plan
+            .load(b"\x04\0\x01\0\x01\x08\x90\x01\x02\0\x03\0\0\0")
+            .err()
+            .ok_or("a side of 1 is admitted")?;
         assert!(rt; found == PlanFault::Own(refused(10, Place::Nowhere)));
         Ok(())
     }

@@ -22,7 +22,7 @@ pub struct Flow {
     pub rate: Rate,
 }
 
-// Derived, it would not be said in the form that a comparison of slices builds on.
+// Written out, so that a clause says that it is true exactly of equal flows.
 impl PartialEq for Flow {
     ghost use Rattle.table.specs.Equal.{same_flow};
 
