@@ -22,7 +22,7 @@ same_table_decides t u =
     let flows = pointwise_decides same_flow_decides (content t).flows (content u).flows in
     let itself : same_table t t ≡ true =
     λ i. (same_dimensions_decides t.dimensions t.dimensions).1 refl i
-        && (pointwise_decides same_flow_decides (content t).flows (content t).flows).1 refl i in (
+    && (pointwise_decides same_flow_decides (content t).flows (content t).flows).1 refl i in (
       λ e. same_content t u (λ i. record { dimensions = dimensions.0 (first_so _ _ e) i; flows = flows.0 (second_so _ _ e) i }),
       λ e. subst (λ v. same_table t v ≡ true) e itself,
     )
