@@ -1,11 +1,7 @@
 // Comparing tables.
 ghost use Rattle.std.specs.Prelude.{◌≡◌, Decides};
-ghost use Rattle.std.specs.Cmp.{partial_equiv_from_equiv, and_equiv, on_equiv};
-ghost use Rattle.std.specs.Cmp.Lexicographic.{lists_equiv};
-ghost use Rattle.std.specs.Cmp.Rules.{comparing};
-ghost use Rattle.table.specs.Content.{content};
-ghost use Rattle.std.proofs.Common.{rules};
-ghost use Rattle.table.specs.Equal.{same_table};
+ghost use Rattle.std.specs.Cmp.{partial_equiv_from_equiv};
+ghost use Rattle.table.specs.Equal.{same_table, same_table_equiv};
 
 use super::Table;
 use crate::flow::Dimensions;
@@ -14,7 +10,7 @@ use crate::flow::Dimensions;
 impl PartialEq for Table {
     ghost eq = { same_table };
 
-    ghost laws = { partial_equiv_from_equiv (and_equiv (on_equiv (λ t. t.dimensions) (Prim.search (comparing, rules))) (on_equiv (λ t. (content t).flows) (lists_equiv (Prim.search (comparing, rules))))) };
+    ghost laws = { partial_equiv_from_equiv same_table_equiv };
 
     fn eq(&self, other: &Table) -> bool
         ensures parts { result ≡ same_table self.now other.now }
@@ -25,5 +21,5 @@ impl PartialEq for Table {
 }
 
 impl Eq for Table {
-    ghost laws = { and_equiv (on_equiv (λ t. t.dimensions) (Prim.search (comparing, rules))) (on_equiv (λ t. (content t).flows) (lists_equiv (Prim.search (comparing, rules)))) };
+    ghost laws = { same_table_equiv };
 }
