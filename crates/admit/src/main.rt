@@ -9,6 +9,7 @@ use std::io::{Read, Write};
 const ENOUGH: u64 = 1024;
 
 fn main(rt: HostRuntime) -> io::Result<()> {
+    // (`show` has these two lines too; a crate for them alone would be longer and say no more)
     let mut bytes = Vec::new(rt.alloc());
     rt.stdin().take(ENOUGH).read_to_end(&mut bytes)?;
     // No listing is longer than this place.

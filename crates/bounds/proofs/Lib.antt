@@ -1,2 +1,5 @@
-pub mod Delays
+pub mod Arrays
 pub mod Counts
+pub mod Delays
+pub mod Least
+pub mod Over

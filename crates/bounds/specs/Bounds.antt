@@ -32,9 +32,12 @@ is_turning c r k = turns_at (flow c k) r
 abbrev pub is_through : Content → ℕ × ℕ → ℕ → Bool
 is_through c r k = through (side c) (flow c k) r
 
--- another flow than i that turns where i does
+-- another flow than i that turns at router r, and where i does
+abbrev pub is_beside : Content → ℕ → ℕ × ℕ → ℕ → Bool
+is_beside c i r k = not (k == i) && is_turning c r k
+
 abbrev pub is_other : Content → ℕ → ℕ → Bool
-is_other c i k = not (k == i) && is_turning c (turn c i) k
+is_other c i k = is_beside c i (turn c i) k
 
 abbrev pub starts_at : Flow → ℕ × ℕ → Bool
 starts_at f r = f.source.0 == r.0 && f.source.1 == r.1

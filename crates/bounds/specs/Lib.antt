@@ -1,6 +1,6 @@
 pub mod Sums
 pub mod Bounds
-pub mod Groups
+pub mod Calls
 pub mod Lines
 pub mod Bursts
 pub mod Systems

@@ -12,6 +12,12 @@ pub sum_more : (n : ℕ) (f : ℕ → ℕ) → sum (n + 1) f ≡ sum n f + f n
 unfolding sum
 sum_more n f = rw add-one refl
 
+-- the first term, and the others
+pub sum_first : (n : ℕ) (f : ℕ → ℕ) → sum (suc n) f ≡ f 0 + sum n (λ k. f (suc k))
+unfolding sum
+sum_first zero f = omega arith
+sum_first (suc n) f = omega (arith, sum_first n f)
+
 pub sum_mono : (n : ℕ) (f g : ℕ → ℕ) → ((k : ℕ) → k < n → f k ≤ g k) → sum n f ≤ sum n g
 unfolding sum
 sum_mono zero f g h = omega arith

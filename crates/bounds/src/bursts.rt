@@ -1,7 +1,6 @@
 // The least bursts of a table's flows.
 ghost use Rattle.std.specs.Prelude.{◌≡◌, ℕ, ◌≤◌, length};
 ghost use Rattle.least.specs.Systems.{entries_of};
-ghost use Rattle.table.specs.Content.{content};
 ghost use Rattle.bounds.specs.Sums.{units_of};
 ghost use Rattle.bounds.specs.Lines.{Solved};
 ghost use Rattle.bounds.specs.Bursts.{Bounded};
@@ -9,6 +8,7 @@ ghost use Rattle.bounds.specs.Bursts.{Bounded};
 use crate::lines::{Lines, lines_of};
 use least::{Unmet, search};
 use quantity::Units;
+use std::array;
 use table::Table;
 
 // The numbers as units, and nothing behind them.
@@ -17,11 +17,7 @@ fn in_units(entries: &[u32]) -> [Units; 64]
     ensures long { length result ≡ 64 }
     ensures each { (k : ℕ) → units_of result k ≡ entries_of entries.now k }
 {
-    let mut units = [Units(0); 64];
-    for k in 0..entries.len() {
-        units[k] = Units(entries[k]);
-    }
-    units
+    array::from_fn(|k| Units(entries.get(k).copied().unwrap_or(0)))
 }
 
 // The least solution of the lines, found from nothing.
@@ -35,10 +31,10 @@ fn solve(lines: &Lines, place: &mut [u32]) -> Result<(), Unmet>
 
 // The least bursts that keep the rules, with nothing behind the last flow, or that none do.
 pub fn least_bursts(table: &Table) -> Result<[Units; 64], Unmet>
-    ensures { Bounded (content table.now) result }
+    ensures { Bounded table.now result }
 {
     let mut entries = [0; 64];
-    let place = &mut entries[0..table.flows().len()];
+    let place = &mut entries[..table.flows().len()];
     solve(&lines_of(table), place)?;
     Ok(in_units(place))
 }

@@ -3,13 +3,22 @@
 #![tactic(auto)]
 
 mod bursts;
-mod groups;
 mod lines;
 mod rounding;
+mod sums;
 mod turns;
 mod waits;
 
 pub use bursts::least_bursts;
 pub use lines::{Line, Lines, lines_of};
-pub use turns::{backlog, is_saturated, is_turn, turn_delay};
-pub use waits::{is_crowded, latency, wait};
+use quantity::Units;
+use table::Table;
+pub use turns::{is_saturated, is_turn};
+pub use waits::is_crowded;
+
+// A table and a choice of bursts, by flow; its methods answer what follows from both.
+#[derive(Clone, Copy)]
+pub struct Bounds<'a> {
+    pub table: &'a Table,
+    pub bursts: &'a [Units],
+}

@@ -9,10 +9,15 @@ mod system;
 pub use build::lines_of;
 
 // What stays of a flow's line while bursts rise, so that a pass over all lines only adds bursts.
-// A flow that does not turn has rate 0 here: nothing that it meets counts.
 #[derive(Clone, Copy)]
 pub struct Line {
     slack: Units,
+    turn: Option<Turn>,
+}
+
+// What a flow has to do with the router where it turns, and which flows come there from the north.
+#[derive(Clone, Copy)]
+struct Turn {
     rate: Rate,
     others: u64,
     room: u64,
@@ -23,6 +28,7 @@ pub struct Line {
 }
 
 // The line of each flow of a table.
+// (an array and a count, since lines are `Copy` and take no heap, and `ArrayVec` is not `Copy`)
 #[derive(Clone, Copy)]
 pub struct Lines {
     count: usize,

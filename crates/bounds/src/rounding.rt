@@ -6,10 +6,7 @@ pub(crate) fn divide(a: u64, d: u64) -> u64
     ensures value { result ≡ a / d }
     ensures small { result ≤ a }
 {
-    if d == 0 {
-        return 0;
-    }
-    a / d
+    a.checked_div(d).unwrap_or(0)
 }
 
 // The quotient, rounded up.

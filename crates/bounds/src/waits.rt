@@ -1,81 +1,88 @@
 // Waits at the source, and the whole latency.
 ghost use Rattle.std.specs.Prelude.{◌≡◌, ◌*◌, ◌^◌, ◌<◌, ◌≤◌};
-ghost use Rattle.table.specs.Content.{content};
 ghost use Rattle.bounds.specs.Sums.{units_of};
 ghost use Rattle.bounds.specs.Bounds as bound;
 
-use crate::groups::{Group, bursts_of, rates, slacks};
+use crate::Bounds;
 use crate::rounding::divide;
-use crate::turns::{flow_at, turn_delay};
-use quantity::{Steps, Units};
+use crate::sums::{frame, rates, slacks};
+use crate::turns::{flow_at, north_rates, turn_rates};
+use quantity::Steps;
 use table::{Flow, Table};
-use torus::{hops, turns};
+use torus::{Torus, turns, turns_at};
 
 // The rates of the users of a flow's outlet at its source.
 fn outlet_rates(table: &Table, flow: &Flow) -> u64
-    ensures value { result ≡ bound.outlet_rates (content table.now) flow.now }
+    ensures value { result ≡ bound.outlet_rates table.now flow.now }
     ensures small { result ≤ 128 * 65535 }
 {
+    let (torus, source) = (Torus::from(table.dimensions()), flow.source);
     if turns(flow) {
-        return rates(table, Group::Through(flow.source));
+        return rates(table, |_, other| torus.through(other, source));
     }
-    rates(table, Group::North(flow.source)) + rates(table, Group::Turning(flow.source))
+    north_rates(table, source) + turn_rates(table, source)
 }
 
-// What they can send at once.
-fn outlet_units(table: &Table, bursts: &[Units], flow: &Flow) -> u64
-    ensures value { result ≡ bound.outlet_units (content table.now) (units_of bursts.now) flow.now }
-    ensures small { result ≤ 128 * 4294967295 }
-{
-    if turns(flow) {
-        return slacks(table, Group::Through(flow.source));
-    }
-    bursts_of(table, bursts, Group::North(flow.source))
-        + bursts_of(table, bursts, Group::Turning(flow.source))
-}
-
-// The rates of the rivals of flow `k`.
-fn rival_rates(table: &Table, k: usize) -> u64
-    ensures value { result ≡ bound.rival_rates (content table.now) k }
+// The rates of the rivals of flow `own`.
+fn rival_rates(table: &Table, own: usize) -> u64
+    ensures value { result ≡ bound.rival_rates table.now own }
     ensures small { result ≤ 192 * 65535 }
 {
-    let flow = flow_at(table, k);
-    rates(table, Group::Client(k, flow.source)) + outlet_rates(table, &flow)
-}
-
-// What the rivals of flow `k` can send at once.
-fn rival_units(table: &Table, bursts: &[Units], k: usize) -> u64
-    ensures value { result ≡ bound.rival_units (content table.now) (units_of bursts.now) k }
-    ensures small { result ≤ 192 * 4294967295 }
-{
-    let flow = flow_at(table, k);
-    slacks(table, Group::Client(k, flow.source)) + outlet_units(table, bursts, &flow)
+    let flow = flow_at(table, own);
+    let clients = rates(table, |k, other| k != own && other.source == flow.source);
+    clients + outlet_rates(table, &flow)
 }
 
 // Whether flow `k`, counted from 0, and its rivals bring more than a step takes.
 pub fn is_crowded(table: &Table, k: usize) -> bool
-    ensures { result ≡ bound.crowded (content table.now) k }
+    ensures { result ≡ bound.crowded table.now k }
 {
-    let rate = flow_at(table, k).rate.0 as u64;
-    (table.dimensions().frame.0 as u64) < rival_rates(table, k) + rate
+    let rate = u64::from(flow_at(table, k).rate.0);
+    frame(table) < rival_rates(table, k) + rate
 }
 
-// The steps that a covered packet of flow `k` can wait in its mouth.
-pub fn wait(table: &Table, bursts: &[Units], k: usize) -> Steps
-    ensures value { result.0 ≡ bound.wait (content table.now) (units_of bursts.now) k }
-    ensures small { result.0 < 10 ^ 12 }
-{
-    let frame = table.dimensions().frame.0 as u64;
-    let left = frame.saturating_sub(rival_rates(table, k));
-    Steps(divide(rival_units(table, bursts, k), left))
-}
+impl Bounds<'_> {
+    // What the users of a flow's outlet at its source can send at once.
+    fn outlet_units(&self, flow: &Flow) -> u64
+        ensures value { result ≡ bound.outlet_units self.now.table.now (units_of self.now.bursts.now) flow.now }
+        ensures small { result ≤ 128 * 4294967295 }
+    {
+        let (torus, source) = (Torus::from(self.table.dimensions()), flow.source);
+        if turns(flow) {
+            return slacks(self.table, |_, other| torus.through(other, source));
+        }
+        self.north_bursts(source) + self.bursts_of(|_, other| turns_at(other, source))
+    }
 
-// The steps in which a covered packet of flow `k` is delivered.
-pub fn latency(table: &Table, bursts: &[Units], k: usize) -> Steps
-    ensures value { result.0 ≡ bound.latency (content table.now) (units_of bursts.now) k }
-    ensures small { result.0 < 10 ^ 13 }
-{
-    let waiting = wait(table, bursts, k).0 + turn_delay(table, bursts, k).0;
-    let flow = flow_at(table, k);
-    Steps(waiting + hops(table.dimensions().side, &flow).0)
+    // What the rivals of flow `own` can send at once.
+    fn rival_units(&self, own: usize) -> u64
+        ensures value { result ≡ bound.rival_units self.now.table.now (units_of self.now.bursts.now) own }
+        ensures small { result ≤ 192 * 4294967295 }
+    {
+        let flow = flow_at(self.table, own);
+        let clients = slacks(
+            self.table,
+            |k, other| k != own && other.source == flow.source,
+        );
+        clients + self.outlet_units(&flow)
+    }
+
+    // The steps that a covered packet of flow `k` can wait in its mouth.
+    pub fn wait(&self, k: usize) -> Steps
+        ensures value { result.0 ≡ bound.wait self.now.table.now (units_of self.now.bursts.now) k }
+        ensures small { result.0 < 10 ^ 12 }
+    {
+        let left = frame(self.table).saturating_sub(rival_rates(self.table, k));
+        Steps(divide(self.rival_units(k), left))
+    }
+
+    // The steps in which a covered packet of flow `k` is delivered.
+    pub fn latency(&self, k: usize) -> Steps
+        ensures value { result.0 ≡ bound.latency self.now.table.now (units_of self.now.bursts.now) k }
+        ensures small { result.0 < 10 ^ 13 }
+    {
+        let waiting = self.wait(k).0 + self.turn_delay(k).0;
+        let torus = Torus::from(self.table.dimensions());
+        Steps(waiting + torus.hops(&flow_at(self.table, k)).0)
+    }
 }

@@ -23,10 +23,9 @@ fn cuts(rt: &HostRuntime, bytes: &[u8]) -> io::Result<()> {
 
 // The byte at `at` replaced by each of the values; a file that is good all the same is passed over.
 fn changes(rt: &HostRuntime, bytes: &mut Vec<u8>, at: usize) -> io::Result<()> {
-    if at >= bytes.len() {
+    let Some(kept) = bytes.get(at).copied() else {
         return Ok(());
-    }
-    let kept = bytes[at];
+    };
     for value in VALUES {
         bytes[at] = value;
         if show(bytes.as_slice()).as_bytes().starts_with(b"refused") {
@@ -40,12 +39,12 @@ fn changes(rt: &HostRuntime, bytes: &mut Vec<u8>, at: usize) -> io::Result<()> {
 
 // A file with the first flow 65 times, once more than a file may have flows.
 fn crowded(rt: &HostRuntime, bytes: &[u8]) -> io::Result<()> {
-    if bytes.len() < 20 {
+    let (Some(head), Some(flow)) = (bytes.get(0..8), bytes.get(8..20)) else {
         return Ok(());
-    }
-    let mut file = Vec::from_slice(rt.alloc(), &bytes[0..8])?;
+    };
+    let mut file = Vec::from_slice(rt.alloc(), head)?;
     for _ in 0..65 {
-        file.extend_from_slice(&bytes[8..20])?;
+        file.extend_from_slice(flow)?;
     }
     file.extend_from_slice(&[2, 0, 3, 0, 65, 0])?;
     print!(rt; "65 flows ")?;
@@ -57,6 +56,7 @@ fn main(rt: HostRuntime) -> io::Result<()> {
     rt.stdin().read_to_end(&mut bytes)?;
     cuts(&rt, bytes.as_slice())?;
     crowded(&rt, bytes.as_slice())?;
+    // (by index: a byte is changed while the whole file is shown)
     for at in 0..bytes.len() {
         changes(&rt, &mut bytes, at)?;
     }

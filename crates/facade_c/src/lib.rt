@@ -7,7 +7,7 @@ ghost use Rattle.facade_c.specs.Told.{Small, code, Told};
 use listing::list;
 use table::Fault;
 
-// The answer as one number.
+// The answer as one number: C has no Result, and its callers know -21 for a place that is too short.
 fn code(answer: Result<usize, Fault>) -> i64
     requires { Small answer }
     ensures { result ≡ code answer }

@@ -1,2 +1,2 @@
 pub mod Fixed
-mod Passes
+mod Raising

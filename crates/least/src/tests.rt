@@ -3,7 +3,7 @@ ghost use Rattle.std.specs.Prelude.{◌+◌, if◌then◌else◌, nat_eq};
 ghost use Rattle.least.specs.Systems.{Capped};
 ghost use Rattle.std.proofs.Common.{rules};
 
-use super::{System, pass, search};
+use super::{System, Unmet, pass, search};
 use std::test::Fail;
 
 // Entry 0 is at least 1, entry 1 at least 2 more than entry 0, and both are at most the number.
@@ -14,10 +14,7 @@ impl Pair {
     fn capped(self, least: u64) -> Option<u32>
         ensures { Capped least self.0 result }
     {
-        if least <= self.0 as u64 {
-            return Some(least as u32);
-        }
-        None
+        u32::try_from(least).ok().filter(|line| *line <= self.0)
     }
 }
 
@@ -32,32 +29,31 @@ impl System for Pair {
 
     fn evaluate(&self, entries: &[u32], i: usize) -> Option<u32> {
         if i == 0 {
-            return self.capped(1);
+            self.capped(1)
+        } else {
+            self.capped(u64::from(entries[0]) + 2)
         }
-        self.capped(entries[0] as u64 + 2)
     }
 }
 
 #[test]
 fn least_entries(rt: HostRuntime) -> Result<(), Fail> {
     let mut entries = [0, 0];
-    search(&Pair(10), &mut entries).ok().ok_or("unmet")?;
-    assert!(rt; entries[0] == 1);
-    assert!(rt; entries[1] == 3);
+    search(&Pair(10), &mut entries)?;
+    assert_eq!(rt; entries, [1, 3]);
     Ok(())
 }
 
 #[test]
 fn no_entries(rt: HostRuntime) {
     let mut entries = [0, 0];
-    assert!(rt; search(&Pair(2), &mut entries).is_err());
+    assert_eq!(rt; search(&Pair(2), &mut entries), Err(Unmet));
 }
 
 #[test]
 fn one_pass(rt: HostRuntime) -> Result<(), Fail> {
     let mut entries = [1, 0];
-    assert!(rt; pass(&Pair(3), &mut entries).ok().ok_or("unmet")?);
-    assert!(rt; entries[0] == 1);
-    assert!(rt; entries[1] == 3);
+    assert!(rt; pass(&Pair(3), &mut entries)?);
+    assert_eq!(rt; entries, [1, 3]);
     Ok(())
 }

@@ -1,6 +1,7 @@
 -- How long the lines are: every text about a table, a plan or a fault has room.
 use Rattle.std.proofs.Common.{◌≡◌, ℕ, suc, ◌+◌, ◌*◌, ◌^◌, ◌<◌, ◌≤◌, List, [], ◌∷◌, ◌++◌, length, get_or, Some, decimal, ap, ◌∙◌, arith, length-append}
 use Rattle.std.proofs.lemmas.Fmt.{length-decimal-le}
+use Rattle.std.proofs.lemmas.List.{take_all}
 use Rattle.table.specs.declared.fault.Fault.{Fault}
 use Rattle.table.specs.declared.fault.Place.{Place}
 use Rattle.table.specs.declared.fault.Place.TheVariants as places
@@ -9,27 +10,25 @@ use Rattle.table.specs.declared.flow.Flow.{Flow}
 use Rattle.table.specs.Blank.{blank}
 use Rattle.table.specs.Content.{Content}
 use Rattle.bounds.specs.Sums.{count}
+use Rattle.plan.specs.declared.model.Plan.{Plan}
 use Rattle.plan.specs.declared.told.FlowBounds.{FlowBounds}
 use Rattle.plan.specs.declared.told.RouterBounds.{RouterBounds}
 use Rattle.plan.specs.Told as told
-use Rattle.text.specs.Said.{clipped}
-use Rattle.text.proofs.Clips.{clipped_short, joined}
+use Rattle.text.specs.Clipped.{clipped, Joins}
+use Rattle.text.proofs.Clips.{joins_one}
 use Rattle.listing.specs.Lines.{torus_line, flow_line, flow_lines, count_line, table_text, place_words, refused_line}
 use Rattle.listing.specs.Plans.{bounds_line, bounds_lines, queue_line, queue_lines, admitted_line, plan_text}
 use Rattle.listing.specs.Small.{DimensionsSmall, FlowSmall, PlaceSmall}
 
 -- three pieces that have room, put at the end of an empty text
-pub three : {t₀ t₁ t₂ t₃ : List ℕ} (a b c : List ℕ) → t₀ ≡ [] → t₁ ≡ clipped (t₀ ++ a) → t₂ ≡ clipped (t₁ ++ b) → t₃ ≡ clipped (t₂ ++ c) → length (a ++ b ++ c) ≤ 8192 → t₃ ≡ a ++ b ++ c
+pub three : {t₀ t₁ t₂ t₃ : List ℕ} (a b c : List ℕ) → t₀ ≡ [] → t₁ ≡ clipped (t₀ ++ a) → Joins t₁ (λ l. l ++ b) t₂ → t₃ ≡ clipped (t₂ ++ c) → length (a ++ b ++ c) ≤ 8192 → t₃ ≡ a ++ b ++ c
 three a b c none first second third room =
-    let front = joined [] a b (first ∙ ap (λ t. clipped (t ++ a)) none) second in
-    joined [] (a ++ b) c front third ∙ clipped_short (a ++ b ++ c) room
+    joins_one _ c _ third [] (a ++ b) (second [] a (first ∙ ap (λ t. clipped (t ++ a)) none)) ∙ take_all 8192 (a ++ b ++ c) room
 
 -- one piece more
-pub four : {t₀ t₁ t₂ t₃ t₄ : List ℕ} (a b c d : List ℕ) → t₀ ≡ [] → t₁ ≡ clipped (t₀ ++ a) → t₂ ≡ clipped (t₁ ++ b) → t₃ ≡ clipped (t₂ ++ c) → t₄ ≡ clipped (t₃ ++ d) → length (a ++ b ++ c ++ d) ≤ 8192 → t₄ ≡ a ++ b ++ c ++ d
+pub four : {t₀ t₁ t₂ t₃ t₄ : List ℕ} (a b c d : List ℕ) → t₀ ≡ [] → t₁ ≡ clipped (t₀ ++ a) → Joins t₁ (λ l. l ++ b) t₂ → Joins t₂ (λ l. l ++ c) t₃ → t₄ ≡ clipped (t₃ ++ d) → length (a ++ b ++ c ++ d) ≤ 8192 → t₄ ≡ a ++ b ++ c ++ d
 four a b c d none first second third fourth room =
-    let front = joined [] a b (first ∙ ap (λ t. clipped (t ++ a)) none) second in
-    let more = joined [] (a ++ b) c front third in
-    joined [] (a ++ b ++ c) d more fourth ∙ clipped_short (a ++ b ++ c ++ d) room
+    joins_one _ d _ fourth [] (a ++ b ++ c) (third [] (a ++ b) (second [] a (first ∙ ap (λ t. clipped (t ++ a)) none))) ∙ take_all 8192 (a ++ b ++ c ++ d) room
 
 word : (n : ℕ) → n < 2 ^ 16 → length (decimal n) ≤ 5
 word n h = length-decimal-le 5 n (omega arith) (omega arith) (omega arith)
@@ -100,11 +99,11 @@ admitted_short : (n : ℕ) → n < 2 ^ 16 → length (admitted_line n) ≤ 15
 admitted_short n h = simp length-append (omega (arith, word n h))
 
 -- 64 lines of flows and 64 lines of routers have room
-pub plan_short : (c : Content) (x : ℕ → ℕ) → DimensionsSmall c.dimensions → count c ≤ 64 → length (bounds_lines c x) ≤ 5632 → length (queue_lines c x) ≤ 2112 → length (plan_text c x) ≤ 8192
-plan_short c x d few flows routers =
-    let first = torus_short c.dimensions d in
-    let last = admitted_short (count c) (omega arith) in
-    let one = torus_line c.dimensions in
-    let two = one ++ bounds_lines c x in
-    let three = two ++ queue_lines c x in
-    omega (arith, length-append three (admitted_line (count c)), length-append two (queue_lines c x), length-append one (bounds_lines c x))
+pub plan_short : (p : Plan) → DimensionsSmall p.table.dimensions → count p.table ≤ 64 → length (bounds_lines p) ≤ 5632 → length (queue_lines p) ≤ 2112 → length (plan_text p) ≤ 8192
+plan_short p d few flows routers =
+    let first = torus_short p.table.dimensions d in
+    let last = admitted_short (count p.table) (omega arith) in
+    let one = torus_line p.table.dimensions in
+    let two = one ++ bounds_lines p in
+    let three = two ++ queue_lines p in
+    omega (arith, length-append three (admitted_line (count p.table)), length-append two (queue_lines p), length-append one (bounds_lines p))

@@ -1,6 +1,5 @@
 // The listing of a table file, to a caller's place.
 ghost use Rattle.std.specs.Prelude.{◌≤◌, length};
-ghost use Rattle.text.specs.Said.{said};
 ghost use Rattle.listing.specs.Listed.{Listed, Given, Lists};
 
 use crate::lines::refused_line;
@@ -20,19 +19,20 @@ pub fn list(bytes: &[u8], place: &mut [u8]) -> Result<usize, Fault>
 
 // The text of the plan of the table whose file the bytes are, or the line that says why they are refused.
 fn listing(bytes: &[u8]) -> Text
-    ensures listed { Listed bytes.now (said result) }
-    ensures small { length (said result) ≤ 8192 }
+    ensures { Listed bytes.now result }
 {
     let mut plan = Plan::empty();
     match plan.load(bytes) {
         Ok(()) => plan_text(&plan),
-        Err(fault) => refused_line(fault.whole()),
+        Err(fault) => refused_line(fault.into()),
     }
 }
 
 // Nothing is written unless the whole text fits.
+// (the fault stands here: an enum for this refusal alone would say no more)
 fn give(text: &Text, place: &mut [u8]) -> Result<usize, Fault>
-    ensures { Given (said text.now) place.old place.new result }
+    ensures given { Given text.now place.old place.new result }
+    ensures small { length text.now ≤ 8192 }
 {
     let bytes = text.as_bytes();
     let len = bytes.len();

@@ -1,9 +1,10 @@
 // Each line is put at the end of a text.
+// (no `Display`: `write!` may answer Err as far as its contract says, and a text about a table cannot fail)
+// `Joins` alone stands where a piece may be nothing.
 // `small` says how large the numbers of a line are, so that a whole text is known to have room.
 ghost use Rattle.std.specs.Prelude.{◌≡◌, ℕ, ◌<◌, ◌++◌, length, codes, decimal, slice_index_or};
-ghost use Rattle.text.specs.Said.{said, clipped, Joins};
+ghost use Rattle.text.specs.Clipped.{clipped, Joins};
 ghost use Rattle.table.specs.Blank.{blank};
-ghost use Rattle.table.specs.Content.{content};
 ghost use Rattle.listing.specs.Small.{DimensionsSmall, FlowSmall, PlaceSmall};
 ghost use Rattle.listing.specs.Lines.{router_words, torus_line, flow_line, flow_lines, count_line, table_text, place_words, refused_line};
 
@@ -12,7 +13,7 @@ use text::Text;
 
 // A line about the torus, one for each flow, and how many flows there are.
 pub fn table_text(table: &Table) -> Text
-    ensures { said result ≡ table_text (content table.now) }
+    ensures { result ≡ table_text table.now }
 {
     let mut text = Text::new();
     torus_line(&mut text, table.dimensions());
@@ -23,7 +24,7 @@ pub fn table_text(table: &Table) -> Text
 
 // The refusal's number, and the place at fault if it has one.
 pub fn refused_line(fault: Fault) -> Text
-    ensures { said result ≡ refused_line fault }
+    ensures { result ≡ refused_line fault }
 {
     let mut text = Text::new();
     text.labelled(b"refused ", fault.number as u64);
@@ -33,7 +34,7 @@ pub fn refused_line(fault: Fault) -> Text
 }
 
 pub(crate) fn torus_line(text: &mut Text, dimensions: Dimensions)
-    ensures says { said text.new ≡ clipped (said text.old ++ torus_line dimensions) }
+    ensures says { text.new ≡ clipped (text.old ++ torus_line dimensions) }
     ensures small { DimensionsSmall dimensions }
 {
     text.labelled(b"torus ", dimensions.side as u64);
@@ -44,7 +45,7 @@ pub(crate) fn torus_line(text: &mut Text, dimensions: Dimensions)
 
 // Flows are numbered from 1.
 fn flow_lines(text: &mut Text, flows: &[Flow])
-    ensures says { said text.new ≡ clipped (said text.old ++ flow_lines 1 flows.now) }
+    ensures says { Joins text.old (λ a. a ++ flow_lines 1 flows.now) text.new }
     ensures small { (k : ℕ) → k < length flows.now → FlowSmall (slice_index_or flows.now k blank) }
 {
     for (i, flow) in flows.iter().enumerate() {
@@ -53,7 +54,7 @@ fn flow_lines(text: &mut Text, flows: &[Flow])
 }
 
 fn flow_line(text: &mut Text, number: usize, flow: Flow)
-    ensures says { said text.new ≡ clipped (said text.old ++ flow_line number flow) }
+    ensures says { text.new ≡ clipped (text.old ++ flow_line number flow) }
     ensures small { FlowSmall flow }
 {
     text.labelled(b"flow ", number as u64);
@@ -65,7 +66,7 @@ fn flow_line(text: &mut Text, number: usize, flow: Flow)
 
 // A label, and then the router's column and row.
 pub(crate) fn router_words(text: &mut Text, label: &[u8], router: (u8, u8))
-    ensures says { said text.new ≡ clipped (said text.old ++ router_words label.now router) }
+    ensures says { text.new ≡ clipped (text.old ++ router_words label.now router) }
     ensures joins { Joins text.old (λ a. router_words (a ++ label.now) router) text.new }
 {
     text.labelled(label, router.0 as u64);
@@ -81,14 +82,14 @@ fn bucket_words(text: &mut Text, flow: Flow)
 }
 
 fn count_line(text: &mut Text, count: usize)
-    ensures { said text.new ≡ clipped (said text.old ++ count_line count) }
+    ensures { text.new ≡ clipped (text.old ++ count_line count) }
 {
     text.labelled(b"flows ", count as u64);
     text.put(b"\n");
 }
 
 fn place_words(text: &mut Text, place: Place)
-    ensures says { said text.new ≡ clipped (said text.old ++ place_words place) }
+    ensures says { Joins text.old (λ a. a ++ place_words place) text.new }
     ensures small { PlaceSmall place }
 {
     match place {

@@ -1,10 +1,10 @@
-// The lines about a plan, each put at the end of a text.
+// The lines about a plan, each put at the end of a text, as in `lines.rt`.
+// `Joins` alone stands where a piece may be nothing.
 // `small` says how long a piece is, so that a whole text is known to have room.
 ghost use Rattle.std.specs.Prelude.{◌≡◌, ◌<◌, ◌≤◌, ◌++◌, length, decimal};
-ghost use Rattle.text.specs.Said.{said, clipped, Joins};
+ghost use Rattle.text.specs.Clipped.{clipped, Joins};
 ghost use Rattle.bounds.specs.Sums.{count};
 ghost use Rattle.bounds.specs.Bounds.{side};
-ghost use Rattle.plan.specs.Plans.{table_of, bursts_of};
 ghost use Rattle.listing.specs.Plans.{bounds_line, bounds_at, bounds_lines, queue_line, queue_at, queue_row, queue_lines, admitted_line, plan_text};
 
 use crate::lines::{router_words, torus_line};
@@ -13,7 +13,7 @@ use text::Text;
 
 // A line about the torus, one for each flow and for each router where a flow turns, and how many flows are admitted.
 pub fn plan_text(plan: &Plan) -> Text
-    ensures { said result ≡ plan_text (table_of plan.now.draft) (bursts_of plan.now.draft) }
+    ensures { result ≡ plan_text plan.now }
 {
     let mut text = Text::new();
     torus_line(&mut text, plan.table().dimensions());
@@ -24,9 +24,10 @@ pub fn plan_text(plan: &Plan) -> Text
 }
 
 fn bounds_lines(text: &mut Text, plan: &Plan)
-    ensures says { said text.new ≡ clipped (said text.old ++ bounds_lines (table_of plan.now.draft) (bursts_of plan.now.draft)) }
-    ensures small { length (bounds_lines (table_of plan.now.draft) (bursts_of plan.now.draft)) ≤ 5632 }
+    ensures says { Joins text.old (λ a. a ++ bounds_lines plan.now) text.new }
+    ensures small { length (bounds_lines plan.now) ≤ 5632 }
 {
+    // (by number: it is by its number that a plan tells a flow's bounds)
     for k in 0..plan.table().flows().len() {
         bounds_at(text, plan, k);
     }
@@ -34,16 +35,17 @@ fn bounds_lines(text: &mut Text, plan: &Plan)
 
 // The line of flow k, which counts from 0; its number counts from 1.
 fn bounds_at(text: &mut Text, plan: &Plan, k: usize)
-    requires { k < count (table_of plan.now.draft) }
-    ensures says { said text.new ≡ clipped (said text.old ++ bounds_at (table_of plan.now.draft) (bursts_of plan.now.draft) k) }
-    ensures small { length (bounds_at (table_of plan.now.draft) (bursts_of plan.now.draft) k) ≤ 88 }
+    requires within { k < count plan.now.table }
+    requires small { k < 64 }
+    ensures says { text.new ≡ clipped (text.old ++ bounds_at plan.now k) }
+    ensures small { length (bounds_at plan.now k) ≤ 88 }
 {
     let bounds = plan.flow(k + 1).unwrap();
     bounds_line(text, k + 1, bounds);
 }
 
 fn bounds_line(text: &mut Text, number: usize, bounds: FlowBounds)
-    ensures { said text.new ≡ clipped (said text.old ++ bounds_line number bounds) }
+    ensures { text.new ≡ clipped (text.old ++ bounds_line number bounds) }
 {
     text.labelled(b"flow ", number as u64);
     text.labelled(b" burst ", bounds.burst.0 as u64);
@@ -68,8 +70,8 @@ fn two_words(text: &mut Text, first: &[u8], m: u64, second: &[u8], n: u64)
 
 // Row by row.
 fn queue_lines(text: &mut Text, plan: &Plan)
-    ensures says { said text.new ≡ clipped (said text.old ++ queue_lines (table_of plan.now.draft) (bursts_of plan.now.draft)) }
-    ensures small { length (queue_lines (table_of plan.now.draft) (bursts_of plan.now.draft)) ≤ 2112 }
+    ensures says { Joins text.old (λ a. a ++ queue_lines plan.now) text.new }
+    ensures small { length (queue_lines plan.now) ≤ 2112 }
 {
     for y in 0..plan.table().dimensions().side {
         queue_row(text, plan, y);
@@ -77,9 +79,9 @@ fn queue_lines(text: &mut Text, plan: &Plan)
 }
 
 fn queue_row(text: &mut Text, plan: &Plan, y: u8)
-    requires { y < side (table_of plan.now.draft) }
-    ensures says { said text.new ≡ clipped (said text.old ++ queue_row (table_of plan.now.draft) (bursts_of plan.now.draft) y) }
-    ensures small { length (queue_row (table_of plan.now.draft) (bursts_of plan.now.draft) y) ≤ 264 }
+    requires { y < side plan.now.table }
+    ensures says { Joins text.old (λ a. a ++ queue_row plan.now y) text.new }
+    ensures small { length (queue_row plan.now y) ≤ 264 }
 {
     for x in 0..plan.table().dimensions().side {
         queue_at(text, plan, (x, y));
@@ -88,10 +90,10 @@ fn queue_row(text: &mut Text, plan: &Plan, y: u8)
 
 // The line of a router of the torus, or nothing where no flow turns.
 fn queue_at(text: &mut Text, plan: &Plan, router: (u8, u8))
-    requires column { router.0 < side (table_of plan.now.draft) }
-    requires row { router.1 < side (table_of plan.now.draft) }
-    ensures says { said text.new ≡ clipped (said text.old ++ queue_at (table_of plan.now.draft) (bursts_of plan.now.draft) router) }
-    ensures small { length (queue_at (table_of plan.now.draft) (bursts_of plan.now.draft) router) ≤ 33 }
+    requires column { router.0 < side plan.now.table }
+    requires row { router.1 < side plan.now.table }
+    ensures says { Joins text.old (λ a. a ++ queue_at plan.now router) text.new }
+    ensures small { length (queue_at plan.now router) ≤ 33 }
 {
     let bounds = plan.router(router).unwrap();
     if bounds.turns {
@@ -100,7 +102,7 @@ fn queue_at(text: &mut Text, plan: &Plan, router: (u8, u8))
 }
 
 fn queue_line(text: &mut Text, router: (u8, u8), bounds: RouterBounds)
-    ensures { said text.new ≡ clipped (said text.old ++ queue_line router bounds) }
+    ensures { text.new ≡ clipped (text.old ++ queue_line router bounds) }
 {
     router_words(text, b"router ", router);
     text.labelled(b" backlog ", bounds.backlog.0 as u64);
@@ -109,7 +111,7 @@ fn queue_line(text: &mut Text, router: (u8, u8), bounds: RouterBounds)
 }
 
 fn admitted_line(text: &mut Text, count: usize)
-    ensures { said text.new ≡ clipped (said text.old ++ admitted_line count) }
+    ensures { text.new ≡ clipped (text.old ++ admitted_line count) }
 {
     text.labelled(b"admitted ", count as u64);
     text.put(b"\n");

@@ -1,12 +1,11 @@
 -- A table has at most one plan, and a refused table has none.
-use Rattle.std.proofs.Common.{◌≡◌, ℕ, ◌+◌, ◌-◌, ◌*◌, ◌/◌, ◌%◌, ◌<◌, Bool, true, false, cond, not, ◌&&◌, List, length, Some, None, Ok, Err, Result, sym, refl, ap, ◌∙◌, subst, ⊎_elim, arith}
+use Rattle.std.proofs.Common.{◌≡◌, ℕ, ◌+◌, ◌-◌, ◌*◌, ◌/◌, ◌%◌, ◌<◌, Bool, true, false, cond, List, length, Ok, Err, Result, sym, ap, ◌∙◌, subst, ⊎_elim, arith}
 use Rattle.std.proofs.lemmas.Nat.{mod_below, div_below, div-add-mod'}
 use Rattle.std.proofs.lemmas.List.{ext_get_or}
 use Rattle.std.proofs.lemmas.Bool.{cases_lt, true≢false, ltb-true}
 use Rattle.quantity.specs.declared.Packets.{Packets}
 use Rattle.quantity.specs.declared.Units.{Units}
 use Rattle.table.specs.declared.fault.Fault.{Fault}
-use Rattle.table.specs.declared.flow.Flow.{Flow}
 use Rattle.table.specs.Content.{Content}
 use Rattle.torus.proofs.Rings.{side_some}
 use Rattle.bounds.specs.Sums.{count, flow, units_of}
@@ -14,14 +13,13 @@ use Rattle.bounds.specs.Bounds.{side, frame, is_north, north_bursts, turn_rates,
 use Rattle.bounds.specs.Bursts.{Ends}
 use Rattle.bounds.specs.Sigma.{sum_same}
 use Rattle.plan.specs.declared.model.Plan.{Plan}
-use Rattle.plan.specs.declared.refusal.FlowFault.{FlowFault}
-use Rattle.plan.specs.declared.refusal.FlowFault.TheVariants.{Outside, Still, Burst, Rate}
 use Rattle.plan.specs.declared.refusal.Refusal.{Refusal}
 use Rattle.plan.specs.declared.refusal.Refusal.TheVariants as reasons
 use Rattle.plan.specs.declared.refusal.Refusal.TheVariants.{Side, Frame, Depth, Saturated, Crowded, Unbounded, Shallow}
-use Rattle.plan.specs.Faults.{depth, on_torus, is_still, burst_fits, rate_fits, flow_fits, flow_fault}
-use Rattle.plan.specs.Plans.{table_of, packets_of, Sound, Backlogs, Over, Deep}
+use Rattle.plan.specs.Faults.{depth}
+use Rattle.plan.specs.Plans.{packets_of, Sound, Backlogs, Over, Deep}
 use Rattle.plan.specs.Refusals.{Against, Admitted, Alone}
+use Rattle.plan.proofs.Checked.{no_fault}
 
 -- what a plan says of its table
 pub record Facts (c : Content) (us : List Units) (ps : List Packets) : Type 0 where
@@ -34,14 +32,14 @@ pub record Facts (c : Content) (us : List Units) (ps : List Packets) : Type 0 wh
   pub over : Over c ps
   pub deep : Deep c (units_of us)
 
-pub facts : (p : Plan) → Facts (table_of p.draft) p.draft.bursts p.draft.backlogs
+pub facts : (p : Plan) → Facts p.table p.bursts p.backlogs
 facts p = record {
   long = p.long.0;
   wide = p.long.1;
   sound = record { roomy = record { whole = record { ranged = p.ranged; flows = p.faultless }; turns = p.roomy }; sources = p.calm };
   least = record { keeps = record { straight = p.straight; turning = p.turning; capped = p.capped }; minimal = p.minimal };
   ends = p.ends;
-  backlogs = p.backlogs;
+  backlogs = p.queues;
   over = p.over;
   deep = p.deep;
 }
@@ -76,19 +74,6 @@ module _ (c : Content) (us vs : List Units) (ps qs : List Packets) (f : Facts c 
   pub one_plan : (us ≡ vs) × (ps ≡ qs)
   one_plan = (same_units, same_packets)
 
-faultless : (a b d e : Bool) → (a && (not b && (d && e))) ≡ true → cond a (cond b (Some Still) (cond d (cond e None (Some Rate)) (Some Burst))) (Some Outside) ≡ None
-faultless true true d e h = absurd (true≢false (sym h))
-faultless true false true true h = refl
-faultless true false true false h = absurd (true≢false (sym h))
-faultless true false false e h = absurd (true≢false (sym h))
-faultless false b d e h = absurd (true≢false (sym h))
-
-no_fault : (m q : ℕ) (f : Flow) (why : FlowFault) → flow_fits m q f ≡ true → flow_fault m q f ≡ Some why → ⊥
-no_fault m q f why h e =
-    let n = sym (faultless (on_torus m f) (is_still f) (burst_fits f) (rate_fits q f) h) ∙ e in
-    let z : ◌≡◌ {A = ℕ} 0 1 = cc in
-    omega arith
-
 both : {b : Bool} → b ≡ true → b ≡ false → ⊥
 both h e = true≢false (sym h ∙ e)
 
@@ -116,6 +101,6 @@ module _ (c : Content) (us : List Units) (ps : List Packets) (f : Facts c us ps)
 -- the answer of admission is the only one
 pub alone : (c : Content) (before after : Plan) (r : Result (Unit {0}) Fault) → Admitted c before after r → Alone c after r
 alone c before after (Ok u) e = λ q same.
-    one_plan c _ _ _ _ (subst (λ t. Facts t q.draft.bursts q.draft.backlogs) same (facts q)) (subst (λ t. Facts t after.draft.bursts after.draft.backlogs) e (facts after))
+    one_plan c _ _ _ _ (subst (λ t. Facts t q.bursts q.backlogs) same (facts q)) (subst (λ t. Facts t after.bursts after.backlogs) e (facts after))
 alone c before after (Err f) e = λ q same.
-    no_plan c _ _ (subst (λ t. Facts t q.draft.bursts q.draft.backlogs) same (facts q)) e.0.0 e.0.2
+    no_plan c _ _ (subst (λ t. Facts t q.bursts q.backlogs) same (facts q)) e.0.0 e.0.2

@@ -1,23 +1,24 @@
--- What the checks of admission give.
-use Rattle.std.proofs.Common.{◌≡◌, ℕ, Bool, true, false, cond, not, ◌&&◌, Some, None, refl, arith}
+-- A flow keeps its ranges just where nothing is wrong with it.
+use Rattle.std.proofs.Common.{◌≡◌, ℕ, Bool, true, false, cond, not, ◌&&◌, Some, None, refl, sym, ap, ◌∙◌}
+use Rattle.std.specs.Option.{is_none}
+use Rattle.std.proofs.lemmas.Bool.{true≢false}
 use Rattle.table.specs.declared.flow.Flow.{Flow}
 use Rattle.plan.specs.declared.refusal.FlowFault.{FlowFault}
 use Rattle.plan.specs.declared.refusal.FlowFault.TheVariants.{Outside, Still, Burst, Rate}
-use Rattle.plan.specs.Order.{NoneAbove, Nowhere}
 use Rattle.plan.specs.Faults.{on_torus, is_still, burst_fits, rate_fits, flow_fits, flow_fault}
 
-some_none : {x : FlowFault} {P : Type 0} → Some x ≡ None → P
-some_none e = let z : ◌≡◌ {A = ℕ} 0 1 = cc in absurd (omega arith)
+by_cases : (a b d e : Bool) → (a && (not b && (d && e))) ≡ is_none (cond a (cond b (Some Still) (cond d (cond e None (Some Rate)) (Some Burst))) (Some Outside))
+by_cases true true d e = refl
+by_cases true false true true = refl
+by_cases true false true false = refl
+by_cases true false false e = refl
+by_cases false b d e = refl
 
-passed : (a b c d : Bool) → cond a (cond b (Some Still) (cond c (cond d None (Some Rate)) (Some Burst))) (Some Outside) ≡ None → (a && (not b && (c && d))) ≡ true
-passed true true c d e = some_none e
-passed true false true true e = refl
-passed true false true false e = some_none e
-passed true false false d e = some_none e
-passed false b c d e = some_none e
+fits_is : (m q : ℕ) (f : Flow) → flow_fits m q f ≡ is_none (flow_fault m q f)
+fits_is m q f = by_cases (on_torus m f) (is_still f) (burst_fits f) (rate_fits q f)
 
 pub fits : (m q : ℕ) (f : Flow) → flow_fault m q f ≡ None → flow_fits m q f ≡ true
-fits m q f e = passed (on_torus m f) (is_still f) (burst_fits f) (rate_fits q f) e
+fits m q f e = fits_is m q f ∙ ap is_none e
 
-pub nowhere : (m : ℕ) (test : ℕ × ℕ → Bool) → NoneAbove m test m → Nowhere m test
-nowhere m test h r column row = h r.1 row r.0 column
+pub no_fault : (m q : ℕ) (f : Flow) (why : FlowFault) → flow_fits m q f ≡ true → flow_fault m q f ≡ Some why → ⊥
+no_fault m q f why h e = true≢false (sym h ∙ (fits_is m q f ∙ ap is_none e))

@@ -1,4 +1,5 @@
 pub mod Checked
 pub mod Filled
 pub mod NoFlows
+pub mod Searches
 pub mod Alone

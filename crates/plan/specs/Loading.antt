@@ -6,7 +6,6 @@ use Rattle.table.specs.Reading as reading
 use Rattle.plan.specs.declared.fault.PlanFault.{PlanFault}
 use Rattle.plan.specs.declared.fault.PlanFault.TheVariants.{File, Own}
 use Rattle.plan.specs.declared.model.Plan.{Plan}
-use Rattle.plan.specs.Plans.{table_of}
 use Rattle.plan.specs.Refusals.{Refused}
 
 -- the fault that the bytes are refused by: reading's, or admission's of the table whose file they are
@@ -16,5 +15,5 @@ TurnedDown bs (Own f) = (c : Content) × (bs ≡ encode c) × Refused c f
 
 -- the place holds the plan of the table whose file the bytes are, or it is as it was
 abbrev pub Loaded : List ℕ → Plan → Plan → Result (Unit {0}) PlanFault → Type 0
-Loaded bs before after (Ok u) = bs ≡ encode (table_of after.draft)
+Loaded bs before after (Ok u) = bs ≡ encode after.table
 Loaded bs before after (Err f) = TurnedDown bs f × (after ≡ before)

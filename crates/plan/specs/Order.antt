@@ -31,3 +31,7 @@ pub record FirstRouter (m : ℕ) (test : ℕ × ℕ → Bool) (r : ℕ × ℕ) :
   pub here : test r ≡ true
   pub above : NoneAbove m test r.1
   pub before : NoneBefore test r.1 r.0
+
+-- at each router of a torus of side m, a test answers what `holds` says
+abbrev pub Tells : ℕ → (ℕ × ℕ → Bool → Type 0) → (ℕ × ℕ → Bool) → Type 0
+Tells m answers holds = (r : ℕ × ℕ) (b : Bool) → r.0 < m → r.1 < m → answers r b → holds r ≡ b

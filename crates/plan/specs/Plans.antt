@@ -1,10 +1,9 @@
 -- What a plan keeps.
 use Rattle.std.specs.Prelude.{◌≡◌, ℕ, ◌+◌, ◌*◌, ◌<◌, ◌≤◌, Bool, true, List, [], nat_lt, slice_index_or}
 use Rattle.quantity.specs.declared.Packets.{Packets}
-use Rattle.table.specs.Content.{Content, content}
-use Rattle.bounds.specs.Sums.{count, units_of}
+use Rattle.table.specs.Content.{Content}
+use Rattle.bounds.specs.Sums.{count}
 use Rattle.bounds.specs.Bounds.{side, saturated, crowded, backlog}
-use Rattle.plan.specs.declared.draft.Draft.{Draft}
 use Rattle.plan.specs.Order.{NoneBelow, Nowhere}
 use Rattle.plan.specs.Faults.{depth, side_fits, frame_fits, depth_fits, Faultless}
 
@@ -12,15 +11,9 @@ use Rattle.plan.specs.Faults.{depth, side_fits, frame_fits, depth_fits, Faultles
 abbrev pub packets_of : List Packets → ℕ → ℕ
 packets_of ps k = (slice_index_or ps k (record { 0 = 0 })).0
 
-abbrev pub table_of : Draft → Content
-table_of d = content d.table
-
 -- the table of a place for a plan as it starts: side 2, depth 1, frame 2, no flows
 abbrev pub empty_table : Content
 empty_table = record { dimensions = record { side = 2; depth = record { 0 = 1 }; frame = record { 0 = 2 } }; flows = [] }
-
-abbrev pub bursts_of : Draft → ℕ → ℕ
-bursts_of d = units_of d.bursts
 
 abbrev pub Ranged : Content → Type 0
 Ranged c = (side_fits c ≡ true) × (frame_fits c ≡ true) × (depth_fits c ≡ true)

@@ -10,7 +10,7 @@ use Rattle.plan.specs.declared.model.Plan.{Plan}
 use Rattle.plan.specs.Order.{FirstNumbered, FirstRouter}
 use Rattle.plan.specs.Faults.{side_fits, frame_fits, depth_fits, FirstFault}
 use Rattle.plan.specs.Numbers.{fault_of}
-use Rattle.plan.specs.Plans.{table_of, Ranged, Whole, Roomy, Sound, shallow}
+use Rattle.plan.specs.Plans.{Ranged, Whole, Roomy, Sound, shallow}
 
 -- the reason stands against the table, and none that comes before it in the order does
 abbrev pub Against : Content → Refusal → Type 0
@@ -25,7 +25,7 @@ Against c (Shallow r) = Sound c × ((x : ℕ → ℕ) × LeastBursts c x × Firs
 
 -- a plan for this very table, or the reason against it
 abbrev pub Admits : Content → Result Plan Refusal → Type 0
-Admits c (Ok p) = table_of p.draft ≡ c
+Admits c (Ok p) = p.table ≡ c
 Admits c (Err why) = Against c why
 
 -- the fault of a reason that stands against the table
@@ -34,10 +34,10 @@ Refused c f = (why : Refusal) × (f ≡ fault_of why) × Against c why
 
 -- the place holds the plan of the table, or it is as it was
 abbrev pub Admitted : Content → Plan → Plan → Result (Unit {0}) Fault → Type 0
-Admitted c before after (Ok u) = table_of after.draft ≡ c
+Admitted c before after (Ok u) = after.table ≡ c
 Admitted c before after (Err f) = Refused c f × (after ≡ before)
 
 -- the plan in the place is the table's only one, and a refused table has none
 abbrev pub Alone : Content → Plan → Result (Unit {0}) Fault → Type 0
-Alone c after (Ok u) = (q : Plan) → table_of q.draft ≡ c → (q.draft.bursts ≡ after.draft.bursts) × (q.draft.backlogs ≡ after.draft.backlogs)
-Alone c after (Err f) = (q : Plan) → table_of q.draft ≢ c
+Alone c after (Ok u) = (q : Plan) → q.table ≡ c → (q.bursts ≡ after.bursts) × (q.backlogs ≡ after.backlogs)
+Alone c after (Err f) = (q : Plan) → q.table ≢ c

@@ -13,14 +13,13 @@ pub enum PlanFault {
     Own(Fault),
 }
 
-impl PlanFault {
-    // The fault of the layer that refused.
-    pub fn whole(self) -> Fault
-        ensures { result ≡ whole_of self }
-    {
-        match self {
-            PlanFault::File(fault) => fault,
-            PlanFault::Own(fault) => fault,
+// The fault of the layer that refused.
+impl From<PlanFault> for Fault {
+    ghost from_gives = { λ x y. y ≡ whole_of x };
+
+    fn from(fault: PlanFault) -> Fault {
+        match fault {
+            PlanFault::File(fault) | PlanFault::Own(fault) => fault,
         }
     }
 }

@@ -4,7 +4,6 @@
 mod admission;
 mod backlogs;
 mod checks;
-mod draft;
 mod fault;
 mod model;
 mod refusal;

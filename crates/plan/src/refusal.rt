@@ -37,14 +37,16 @@ fn fault(number: u8, place: Place) -> Fault
     }
 }
 
-fn flow_number(fault: FlowFault) -> u8
-    ensures { result ≡ flow_number fault }
-{
-    match fault {
-        FlowFault::Outside => 13,
-        FlowFault::Still => 14,
-        FlowFault::Burst => 15,
-        FlowFault::Rate => 16,
+impl From<FlowFault> for u8 {
+    ghost from_gives = { λ x y. y ≡ flow_number x };
+
+    fn from(fault: FlowFault) -> u8 {
+        match fault {
+            FlowFault::Outside => 13,
+            FlowFault::Still => 14,
+            FlowFault::Burst => 15,
+            FlowFault::Rate => 16,
+        }
     }
 }
 
@@ -56,7 +58,7 @@ impl From<Refusal> for Fault {
             Refusal::Side => fault(10, Place::Nowhere),
             Refusal::Frame => fault(11, Place::Nowhere),
             Refusal::Depth => fault(12, Place::Nowhere),
-            Refusal::Flow(flow, cause) => fault(flow_number(cause), Place::Flow(flow)),
+            Refusal::Flow(flow, cause) => fault(u8::from(cause), Place::Flow(flow)),
             Refusal::Saturated(router) => fault(17, Place::Router(router)),
             Refusal::Crowded(flow) => fault(18, Place::Flow(flow)),
             Refusal::Unbounded => fault(19, Place::Nowhere),

@@ -1,27 +1,22 @@
-// Tests of routers, row by row.
+// Searching the routers of a table's torus.
 ghost use Rattle.std.specs.Prelude.{◌≡◌, ℕ, Bool, MatchOption};
-ghost use Rattle.plan.specs.Order.{FirstRouter, NoneAbove};
+ghost use Rattle.bounds.specs.Bounds.{side};
+ghost use Rattle.plan.specs.Order.{Tells, Nowhere, FirstRouter};
 
-// A test of a router.
-pub(crate) trait RouterTest {
-    ghost holds: { Self → ℕ × ℕ → Bool };
-
-    fn test(&self, router: (u8, u8)) -> bool
-        ensures { result ≡ holds self.now router };
-}
+use table::Table;
 
 // The first router, row by row, that the test holds of.
-pub(crate) fn first_router<T: RouterTest>(side: u8, test: &T) -> Option<(u8, u8)>
-    ensures { MatchOption result (NoneAbove side (T.holds test.now) side) (FirstRouter side (T.holds test.now)) }
+pub(crate) fn first_router<F: Fn((u8, u8)) -> bool>(table: &Table, test: F) -> Option<(u8, u8)>
+    requires { F.IsAlwaysCallable test }
+    ensures { (holds : ℕ × ℕ → Bool) → Tells (side table.now) (F.post test) holds → MatchOption result (Nowhere (side table.now) holds) (FirstRouter (side table.now) holds) }
 {
-    let mut found = None;
-    'rows: for y in 0..side {
+    let side = table.dimensions().side;
+    for y in 0..side {
         for x in 0..side {
-            if test.test((x, y)) {
-                found = Some((x, y));
-                break 'rows;
+            if test((x, y)) {
+                return Some((x, y));
             }
         }
     }
-    found
+    None
 }

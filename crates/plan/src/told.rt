@@ -11,7 +11,8 @@ pub struct FlowBounds {
     pub latency: Steps,
 }
 
-// Whether some flow turns at a router, its backlog, and the depth that its queue needs.
+// Whether some flow turns at a router, its backlog, and the depth that its queue needs; the numbers
+// hold where none turns too, so `turns` stays beside them.
 #[derive(Clone, Copy)]
 pub struct RouterBounds {
     pub turns: bool,

@@ -55,10 +55,9 @@ mod tests {
 
     // Flow 4 of the five flows waits 21 steps and has burst 300.
     fn tells_flow_4(plan: &Plan) -> bool {
-        match plan.flow(4) {
-            Some(flow) => flow.wait.0 == 21 && flow.burst.0 == 300 && flow.latency.0 == 23,
-            None => false,
-        }
+        plan.flow(4).is_some_and(|flow| {
+            flow.wait.0 == 21 && flow.burst.0 == 300 && flow.latency.0 == 23
+        })
     }
 
     #[test]
@@ -90,13 +89,7 @@ mod tests {
     // The plan of the five flows stands in a place, and a table is refused there.
     fn is_refused(tried: &Table, fault: Fault) -> bool {
         let mut plan = Plan::empty();
-        if plan.admit(&five()).is_err() {
-            return false;
-        }
-        match plan.admit(tried) {
-            Ok(()) => false,
-            Err(found) => found == fault && tells_flow_4(&plan),
-        }
+        plan.admit(&five()).is_ok() && plan.admit(tried) == Err(fault) && tells_flow_4(&plan)
     }
 
     #[test]
@@ -161,7 +154,7 @@ mod tests {
         let mut plan = Plan::empty();
         let found = plan.load(b"").err().ok_or("an empty file is loaded")?;
         assert!(rt; found == PlanFault::File(fault));
-        assert!(rt; found.whole() == fault);
+        assert!(rt; Fault::from(found) == fault);
         let found = plan
             .load(b"\x04\0\x01\0\x01\x08\x90\x01\x02\0\x03\0\0\0")
             .err()

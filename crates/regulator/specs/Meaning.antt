@@ -1,5 +1,6 @@
 -- What a regulator is to everything that uses one.
-use Rattle.std.specs.Prelude.{ℕ, ◌+◌, ◌-◌, ◌*◌, ◌≤◌, min, Bool, cond, nat_le}
+use Rattle.std.specs.Prelude.{◌≡◌, ℕ, ◌+◌, ◌-◌, ◌*◌, ◌≤◌, min, Bool, cond, nat_le}
+use Rattle.regulator.specs.declared.bucket.Bucket.{Bucket}
 use Rattle.regulator.specs.Ranges.{Between}
 
 -- burst in packets, rate in units a step, frame in units a packet; the allowance is in units
@@ -34,3 +35,13 @@ taken m = holding (cond (covers m) (m.allowance - m.frame) m.allowance) m
 -- after a step: the rate more, at most full
 abbrev pub passed : Meaning → Meaning
 passed m = holding (min (m.burst * m.frame) (m.allowance + m.rate)) m
+
+-- a bucket's numbers with an allowance
+abbrev pub with_allowance : ℕ → Bucket → Meaning
+with_allowance l k = record { burst = k.burst.0; rate = k.rate.0; frame = k.frame.0; allowance = l }
+
+-- the numbers of a regulator that never change
+pub record Tells (m : Meaning) (k : Bucket) : Type 0 where
+  pub burst : k.burst.0 ≡ m.burst
+  pub rate : k.rate.0 ≡ m.rate
+  pub frame : k.frame.0 ≡ m.frame

@@ -1,7 +1,6 @@
 // A bank: the regulators of a plan's flows in a lent slice, that of flow 1 first.
 ghost use Rattle.std.specs.Prelude.{◌≡◌, ℕ, false, ◌≢◌, map};
 ghost use Rattle.std.specs.List.{slice_get};
-ghost use Rattle.plan.specs.Plans.{table_of};
 ghost use Rattle.regulator.specs.Meaning.{covers, passed};
 ghost use Rattle.regulator.specs.Banks.{at, taken_at, tells, FirstOther};
 
@@ -14,10 +13,7 @@ use table::Flow;
 pub fn covered_at<R: Regulator>(bank: &[R], place: usize) -> bool
     ensures { result ≡ covers (at (map R.Regulator.meaning bank.now) place) }
 {
-    if place < bank.len() {
-        return bank[place].covered();
-    }
-    false
+    bank.get(place).is_some_and(|regulator| regulator.covered())
 }
 
 // Asks the regulator at a place to take; no other is altered, and none where the answer is no.
@@ -27,6 +23,7 @@ pub fn take_at<R: Regulator>(bank: &mut [R], place: usize) -> bool
     ensures others { (k : ℕ) → k ≢ place → slice_get bank.new k ≡ slice_get bank.old k }
     ensures stays { result ≡ false → bank.new ≡ bank.old }
 {
+    // (by its index: after `get_mut` a proof knows no regulator of the bank)
     if place < bank.len() {
         return bank[place].take();
     }
@@ -53,14 +50,12 @@ fn agrees<R: Regulator>(regulator: &R, flow: &Flow, frame: Frame) -> bool
 
 // The lowest flow, by its number, whose regulator tells other numbers than the plan has.
 pub fn first_other<R: Regulator>(bank: &[R], plan: &Plan) -> Option<usize>
-    ensures { FirstOther (table_of plan.now.draft) (map R.Regulator.meaning bank.now) result }
+    ensures { FirstOther plan.now.table (map R.Regulator.meaning bank.now) result }
 {
     let frame = plan.table().dimensions().frame;
     let flows = plan.table().flows();
-    for k in 0..bank.len().min(flows.len()) {
-        if !agrees(&bank[k], &flows[k], frame) {
-            return Some(k + 1);
-        }
-    }
-    None
+    bank.iter().enumerate().find_map(|(k, regulator)| {
+        let flow = flows.get(k)?;
+        (!agrees(regulator, flow, frame)).then_some(k + 1)
+    })
 }

@@ -2,7 +2,11 @@
 #![tactic(auto)]
 
 mod bank;
+mod bucket;
+mod missing;
 mod regulator;
 
 pub use bank::{covered_at, first_other, pass_all, take_at};
+pub use bucket::Bucket;
+pub use missing::NoFlow;
 pub use regulator::Regulator;

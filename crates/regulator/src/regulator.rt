@@ -1,9 +1,9 @@
 // What every regulator does, said of its meaning alone.
 ghost use Rattle.std.specs.Prelude.{◌≡◌, false};
-ghost use Rattle.plan.specs.Plans.{table_of};
-ghost use Rattle.regulator.specs.Meaning.{Meaning, Lawful, covers, taken, passed};
+ghost use Rattle.regulator.specs.Meaning.{Meaning, Lawful, Tells, covers, taken, passed};
 ghost use Rattle.regulator.specs.Making.{Made};
 
+use crate::bucket::Bucket;
 use plan::Plan;
 use quantity::{Frame, Packets, Rate};
 use table::Fault;
@@ -13,16 +13,11 @@ pub trait Regulator: Copy {
 
     // A full regulator for a flow of the plan, by the flow's number, which counts from 1.
     fn fresh(plan: &Plan, number: usize) -> Result<Self, Fault>
-        ensures { Made meaning (table_of plan.now.draft) number result };
+        ensures { Made meaning plan.now.table number result };
 
-    fn burst(&self) -> Packets
-        ensures { result.0 ≡ (meaning self.now).burst };
-
-    fn rate(&self) -> Rate
-        ensures { result.0 ≡ (meaning self.now).rate };
-
-    fn frame(&self) -> Frame
-        ensures { result.0 ≡ (meaning self.now).frame };
+    // The numbers that never change.
+    fn bucket(&self) -> Bucket
+        ensures { Tells (meaning self.now) result };
 
     // Whether the allowance is that of a packet or more.
     fn covered(&self) -> bool
@@ -39,4 +34,22 @@ pub trait Regulator: Copy {
         ensures { meaning self.new ≡ passed (meaning self.old) };
 
     ghost lawful: { (x : Self) → Lawful (meaning x) };
+
+    final fn burst(&self) -> Packets
+        ensures { result.0 ≡ (meaning self.now).burst }
+    {
+        self.bucket().burst
+    }
+
+    final fn rate(&self) -> Rate
+        ensures { result.0 ≡ (meaning self.now).rate }
+    {
+        self.bucket().rate
+    }
+
+    final fn frame(&self) -> Frame
+        ensures { result.0 ≡ (meaning self.now).frame }
+    {
+        self.bucket().frame
+    }
 }

@@ -1,7 +1,6 @@
 // The kinds of regulator. Each keeps its allowance in its own way, which nothing else knows.
 #![tactic(auto)]
 
-mod bucket;
 mod one_level;
 mod tally;
 mod two_counter;

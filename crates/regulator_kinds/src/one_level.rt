@@ -1,8 +1,8 @@
 // The one-level kind keeps its allowance as a number of units.
 ghost use Rattle.std.specs.Prelude.{◌*◌, ◌≤◌};
 
-use crate::bucket::Bucket;
 use quantity::Units;
+use regulator::Bucket;
 
 mod clauses;
 

@@ -1,13 +1,11 @@
 // A tally stands on any regulator, means what that one means, and counts the takes that were granted.
 ghost use Rattle.std.specs.Prelude.{◌≡◌, ◌+◌, min, false, IfOk, if◌then◌else◌};
-ghost use Rattle.plan.specs.Plans.{table_of};
 ghost use Rattle.regulator.specs.Meaning.{covers, taken, passed};
 ghost use Rattle.regulator.specs.Making.{Made};
 ghost use Rattle.std.proofs.Common.{rules};
 
 use plan::Plan;
-use quantity::{Frame, Packets, Rate};
-use regulator::Regulator;
+use regulator::{Bucket, Regulator};
 use table::Fault;
 
 #[derive(Clone, Copy)]
@@ -31,23 +29,15 @@ impl<R: Regulator> Regulator for Tally<R> {
     ghost lawful = { Prim.search rules };
 
     fn fresh(plan: &Plan, number: usize) -> Result<Tally<R>, Fault>
-        ensures made { Made (λ t. R.Regulator.meaning t.below) (table_of plan.now.draft) number result }
+        ensures made { Made (λ t. R.Regulator.meaning t.below) plan.now.table number result }
         ensures counted { IfOk result (λ t. t.granted ≡ 0) }
     {
         let below = R::fresh(plan, number)?;
         Ok(Tally { below, granted: 0 })
     }
 
-    fn burst(&self) -> Packets {
-        self.below.burst()
-    }
-
-    fn rate(&self) -> Rate {
-        self.below.rate()
-    }
-
-    fn frame(&self) -> Frame {
-        self.below.frame()
+    fn bucket(&self) -> Bucket {
+        self.below.bucket()
     }
 
     fn covered(&self) -> bool {

@@ -1,8 +1,8 @@
 // The two-counter kind keeps whole packets as tokens, and a phase of less than a packet.
 ghost use Rattle.std.specs.Prelude.{◌≡◌, ◌<◌, ◌≤◌};
 
-use crate::bucket::Bucket;
 use quantity::{Packets, Units};
+use regulator::Bucket;
 
 mod clauses;
 

@@ -27,8 +27,7 @@ fn flow(source: (u8, u8), destination: (u8, u8), rate: u16) -> Flow {
     }
 }
 
-fn with(table: Table, flows: &[Flow]) -> Table {
-    let mut table = table;
+fn with(mut table: Table, flows: &[Flow]) -> Table {
     for flow in flows {
         table.add(*flow).ok();
     }
@@ -61,10 +60,11 @@ fn hop() -> Table {
 
 fn print_answer(rt: &HostRuntime, table: &Table) -> io::Result<()> {
     let mut plan = Plan::empty();
-    match plan.admit(table) {
-        Ok(()) => rt.stdout().write_all(plan_text(&plan).as_bytes()),
-        Err(fault) => rt.stdout().write_all(refused_line(fault).as_bytes()),
-    }
+    let text = match plan.admit(table) {
+        Ok(()) => plan_text(&plan),
+        Err(fault) => refused_line(fault),
+    };
+    rt.stdout().write_all(text.as_bytes())
 }
 
 fn main(rt: HostRuntime) -> io::Result<()> {

@@ -1,6 +1,5 @@
 mod Splits
 mod Prefixes
-mod Same
 mod Equal
 mod Unique
 mod Places

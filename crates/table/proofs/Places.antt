@@ -1,7 +1,8 @@
 -- One put after another.
 use Rattle.std.proofs.Common.{◌≡◌, ℕ, ◌+◌, ◌*◌, ◌<◌, ◌≤◌, List, [], ◌++◌, length, get_or, take, drop, sym, refl, ap, ◌∙◌, append_assoc, add_assoc, zero-add, arith}
+use Rattle.std.proofs.lemmas.Grind.{common_steps}
 use Rattle.std.specs.List.{flat_map}
-use Rattle.std.proofs.lemmas.List.{length-append, length-take-le, take_at, drop_at, drop-drop, take_more, flat_map_more}
+use Rattle.std.proofs.lemmas.List.{length-append, take_at, drop_at, drop-drop, take_more, flat_map_more}
 use Rattle.table.specs.declared.flow.Flow.{Flow}
 use Rattle.table.specs.Content.{Content}
 use Rattle.table.specs.Format.{head_record, flow_record, end_record, front, encode}
@@ -11,16 +12,12 @@ use Rattle.table.proofs.Prefixes.{length_flows, length_front}
 pub put_put : (at n : ℕ) (s t d : List ℕ) → n ≡ at + length s → n + length t ≤ length d → put_at n t (put_at at s d) ≡ put_at at (s ++ t) d
 put_put at n s t d e h =
     let within : at ≤ length d = omega arith in
-    let p = take at d ++ s in
-    let long : length p ≡ n = length-append (take at d) s ∙ (rw length-take-le (sym e)) in
-    let split : put_at at s d ≡ p ++ drop n d = rw e (sym (append_assoc (take at d) s (drop (at + length s) d))) in
-    let past : drop (n + length t) (p ++ drop n d) ≡ drop (n + length t) d =
-    sym (drop-drop (length t) n (p ++ drop n d)) ∙ (ap (drop (length t)) (drop_at p (drop n d) n long) ∙ drop-drop (length t) n d)
-    in
-    let goal : put_at n t (p ++ drop n d) ≡ put_at at (s ++ t) d =
-    rw (take_at p (drop n d) n long, past, length-append s t, ← add_assoc at (length s) (length t), ← e) (simp append_assoc)
-    in
-    ap (put_at n t) split ∙ goal
+    let long : length (take at d ++ s) ≡ n = grind (arith, common_steps) in
+    let front : take n (put_at at s d) ≡ take at d ++ s = rw (← append_assoc) (take_at (take at d ++ s) _ n long) in
+    let past : drop n (put_at at s d) ≡ drop n d = rw (← append_assoc, ← e) (drop_at (take at d ++ s) _ n long) in
+    let behind : drop (n + length t) (put_at at s d) ≡ drop (at + length (s ++ t)) d =
+    rw (← drop-drop (length t) n, past, drop-drop, length-append, e, add_assoc) in
+    rw (front, behind) (simp append_assoc)
 
 pub flows_more : (fs : List Flow) (i : ℕ) (d : Flow) → i < length fs → flat_map flow_record (take (i + 1) fs) ≡ flat_map flow_record (take i fs) ++ flow_record (get_or fs i d)
 flows_more fs i d h = ap (flat_map flow_record) (take_more fs i d h) ∙ sym (flat_map_more flow_record [] (take i fs) (get_or fs i d))

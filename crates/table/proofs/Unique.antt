@@ -5,18 +5,16 @@ use Rattle.std.proofs.lemmas.Bool.Decides.{nat_tests as tells}
 use Rattle.table.specs.declared.fault.Fault.{Fault}
 use Rattle.table.specs.declared.flow.Dimensions.{Dimensions}
 use Rattle.table.specs.declared.flow.Flow.{Flow}
-use Rattle.table.specs.declared.model.Table.{Table}
 use Rattle.table.specs.declared.record.Kind.{Kind}
 use Rattle.table.specs.declared.record.Kind.TheVariants as kinds
 use Rattle.table.specs.declared.record.Kind.TheVariants.{Head, End}
-use Rattle.table.specs.Content.{Content, content}
+use Rattle.table.specs.Content.{Content}
 use Rattle.table.specs.Format.{head_record, flow_record, end_record, front, encode}
 use Rattle.table.specs.Reading.{word_at, refusal, due_at, body_length, Whole, Broken, Wrong, Answers}
 use Rattle.table.specs.Reading.Broken.{headless, undue, missized, cut}
 use Rattle.table.specs.Reading.Wrong.{broken, excess, miscount, trailing}
 use Rattle.table.specs.Reading.Refused.{at_head, behind}
 use Rattle.table.proofs.Prefixes.{length_front}
-use Rattle.table.proofs.Same.{held, same_content}
 
 -- one record: its kind or its fault, computed
 
@@ -102,34 +100,27 @@ flow_same f g x y h =
       cc,
     )
 
--- behind n flows, x does not go on with another, or there are 64
-Last : ℕ → List ℕ → Type 0
-Last n x = (f : Flow) (z : List ℕ) → x ≡ flow_record f ++ z → 64 ≤ n
+-- behind n flows, x does not go on with another, or there are m
+Last : ℕ → ℕ → List ℕ → Type 0
+Last m n x = (f : Flow) (z : List ℕ) → x ≡ flow_record f ++ z → m ≤ n
 
-flows_same : (fs gs : List Flow) (x y : List ℕ) (n : ℕ) → n + length fs ≤ 64 → n + length gs ≤ 64 → Last (n + length fs) x → Last (n + length gs) y → flat_map flow_record fs ++ x ≡ flat_map flow_record gs ++ y → (fs ≡ gs) × (x ≡ y)
+end_last : (m n k : ℕ) → Last m n (end_record k)
 unfolding Last
-flows_same [] [] x y n a b l m e = (refl, e)
-flows_same [] (g ∷ gs) x y n a b l m e =
+end_last m n k = λ f z h. absurd (let z : ◌≡◌ {A = ℕ} 0 1 = cc in omega arith)
+
+flows_same : (m : ℕ) (fs gs : List Flow) (x y : List ℕ) (n : ℕ) → n + length fs ≤ m → n + length gs ≤ m → Last m (n + length fs) x → Last m (n + length gs) y → flat_map flow_record fs ++ x ≡ flat_map flow_record gs ++ y → (fs ≡ gs) × (x ≡ y)
+unfolding Last
+flows_same m [] [] x y n a b l r e = (refl, e)
+flows_same m [] (g ∷ gs) x y n a b l r e =
     absurd (omega (arith, l g (flat_map flow_record gs ++ y) (e ∙ append_assoc (flow_record g) (flat_map flow_record gs) y)))
-flows_same (f ∷ fs) [] x y n a b l m e =
-    absurd (omega (arith, m f (flat_map flow_record fs ++ x) (sym e ∙ append_assoc (flow_record f) (flat_map flow_record fs) x)))
-flows_same (f ∷ fs) (g ∷ gs) x y n a b l m e =
+flows_same m (f ∷ fs) [] x y n a b l r e =
+    absurd (omega (arith, r f (flat_map flow_record fs ++ x) (sym e ∙ append_assoc (flow_record f) (flat_map flow_record fs) x)))
+flows_same m (f ∷ fs) (g ∷ gs) x y n a b l r e =
     let h = flow_same f g (flat_map flow_record fs ++ x) (flat_map flow_record gs ++ y) (sym (append_assoc (flow_record f) (flat_map flow_record fs) x) ∙ (e ∙ append_assoc (flow_record g) (flat_map flow_record gs) y)) in
-    let k = flows_same fs gs x y (n + 1) (omega arith) (omega arith) (λ o z w. omega (arith, l o z w)) (λ o z w. omega (arith, m o z w)) h.1 in
+    let k = flows_same m fs gs x y (n + 1) (omega arith) (omega arith) (λ o z w. omega (arith, l o z w)) (λ o z w. omega (arith, r o z w)) h.1 in
     ((λ i. h.0 i ∷ k.0 i), k.1)
 
 -- what a table file is to reading: the records that are as they should be, and what follows them
-
-told : Result Table Fault → Result Content Fault
-told (Ok t) = Ok (content t)
-told (Err f) = Err f
-
-same_told : (r s : Result Table Fault) → told r ≡ told s → r ≡ s
-unfolding told
-same_told (Ok t) (Ok u) e = ap Ok (same_content t u (cc))
-same_told (Ok t) (Err g) e = absurd (let z : ◌≡◌ {A = ℕ} 0 1 = cc in omega arith)
-same_told (Err f) (Ok u) e = absurd (let z : ◌≡◌ {A = ℕ} 0 1 = cc in omega arith)
-same_told (Err f) (Err g) e = cc
 
 outcome : Content → Option Fault → Result Content Fault
 outcome c None = Ok c
@@ -138,44 +129,43 @@ outcome c (Some f) = Err f
 ending : Content → List ℕ → Option Fault
 ending c q = stop (length c.flows) (length (front c)) q (inspected (length (front c)) q)
 
-record Parsed (bs : List ℕ) (r : Result Table Fault) : Type 0 where
+record Parsed (bs : List ℕ) (r : Result Content Fault) : Type 0 where
   c : Content
   q : List ℕ
   few : length c.flows ≤ 64
   split : bs ≡ head_record c.dimensions ++ (flat_map flow_record c.flows ++ q)
-  last : Last (length c.flows) q
-  tells : told r ≡ outcome c (ending c q)
+  last : Last 64 (length c.flows) q
+  tells : r ≡ outcome c (ending c q)
 
-parsed_same : (bs : List ℕ) (r s : Result Table Fault) → Parsed bs r → Parsed bs s → r ≡ s
+parsed_same : (bs : List ℕ) (r s : Result Content Fault) → Parsed bs r → Parsed bs s → r ≡ s
 unfolding Last
 parsed_same bs r s p o =
     let h = head_same p.c.dimensions o.c.dimensions _ _ (sym p.split ∙ o.split) in
-    let k = flows_same p.c.flows o.c.flows p.q o.q 0 (omega (arith, p.few)) (omega (arith, o.few)) (λ f z w. omega (arith, p.last f z w)) (λ f z w. omega (arith, o.last f z w)) h.1 in
+    let k = flows_same 64 p.c.flows o.c.flows p.q o.q 0 (omega (arith, p.few)) (omega (arith, o.few)) (λ f z w. omega (arith, p.last f z w)) (λ f z w. omega (arith, o.last f z w)) h.1 in
     let c : p.c ≡ o.c = λ i. record { dimensions = h.0 i; flows = k.0 i } in
-    same_told r s (p.tells ∙ ((λ i. outcome (c i) (ending (c i) (k.1 i))) ∙ sym o.tells))
+    p.tells ∙ ((λ i. outcome (c i) (ending (c i) (k.1 i))) ∙ sym o.tells)
 
-parsed_head : (bs : List ℕ) (r : Result Table Fault) → Parsed bs r → inspected 0 bs ≡ Ok Head
+parsed_head : (bs : List ℕ) (r : Result Content Fault) → Parsed bs r → inspected 0 bs ≡ Ok Head
 parsed_head bs r p =
     ap (inspected 0) p.split ∙ whole_is 0 _ Head (head_whole p.c.dimensions (flat_map flow_record p.c.flows ++ p.q))
 
 -- a table's own file, and a fault behind the flows of c, are such
 
-good_parsed : (bs : List ℕ) (t : Table) → bs ≡ encode (content t) → Parsed bs (Ok t)
-unfolding Last told outcome ending
-good_parsed bs t e =
-    let c = content t in
+good_parsed : (bs : List ℕ) (c : Content) → length c.flows ≤ 64 → bs ≡ encode c → Parsed bs (Ok c)
+unfolding Last outcome ending
+good_parsed bs c few e =
     let n = length c.flows in
     record {
       c = c;
       q = end_record n;
-      few = omega (arith, held t, t.few);
+      few = few;
       split = e ∙ append_assoc (head_record c.dimensions) (flat_map flow_record c.flows) (end_record n);
-      last = λ f z h. absurd (let z : ◌≡◌ {A = ℕ} 0 1 = cc in omega arith);
+      last = end_last 64 n n;
       tells = sym (ap (outcome c) (end_is n (length (front c)) (omega (arith, length_front c))));
     }
 
 wrong_parsed : (bs : List ℕ) (f : Fault) (c : Content) (q : List ℕ) → length c.flows ≤ 64 → bs ≡ front c ++ q → Wrong (length c.flows) (length (front c)) q f → Parsed bs (Err f)
-unfolding Last told outcome ending
+unfolding Last outcome ending
 wrong_parsed bs f c q few e w =
     let n = length c.flows in
     let at = length (front c) in
@@ -191,20 +181,31 @@ wrong_parsed bs f c q few e w =
 
 -- an answer is a fault of the head, or such
 
-data Kept (bs : List ℕ) (r : Result Table Fault) : Type 0 where
+data Kept (bs : List ℕ) (r : Result Content Fault) : Type 0 where
   faulty : (f : Fault) → r ≡ Err f → inspected 0 bs ≡ Err f → Kept bs r
   parsed : Parsed bs r → Kept bs r
 
-answered : (bs : List ℕ) (r : Result Table Fault) → Answers bs r → Kept bs r
-answered bs (Ok t) a = parsed (good_parsed bs t a)
+answered : (bs : List ℕ) (r : Result Content Fault) → Answers bs r → Kept bs r
+answered bs (Ok c) a = parsed (good_parsed bs c a.0 a.1)
 answered bs (Err f) (at_head b) = faulty f refl (broken_is 0 bs f b)
 answered bs (Err f) (behind c q few e w) = parsed (wrong_parsed bs f c q few e w)
 
-kept_same : (bs : List ℕ) (r s : Result Table Fault) → Kept bs r → Kept bs s → r ≡ s
+kept_same : (bs : List ℕ) (r s : Result Content Fault) → Kept bs r → Kept bs s → r ≡ s
 kept_same bs r s (faulty f a x) (faulty g b y) = cc
 kept_same bs r s (faulty f a x) (parsed o) = absurd (let h = parsed_head bs s o in let z : ◌≡◌ {A = ℕ} 0 1 = cc in omega arith)
 kept_same bs r s (parsed p) (faulty g b y) = absurd (let h = parsed_head bs r p in let z : ◌≡◌ {A = ℕ} 0 1 = cc in omega arith)
 kept_same bs r s (parsed p) (parsed o) = parsed_same bs r s p o
 
-pub unique : (bs : List ℕ) (r s : Result Table Fault) → Answers bs r → Answers bs s → r ≡ s
+pub unique : (bs : List ℕ) (r s : Result Content Fault) → Answers bs r → Answers bs s → r ≡ s
 unique bs r s a b = kept_same bs r s (answered bs r a) (answered bs s b)
+
+-- no two tables have one file, of however many flows
+
+pub own_file : (c d : Content) → encode d ≡ encode c → d ≡ c
+unfolding Last
+own_file c d e =
+    let m = length d.flows + length c.flows in
+    let split = λ (b : Content). append_assoc (head_record b.dimensions) (flat_map flow_record b.flows) (end_record (length b.flows)) in
+    let h = head_same d.dimensions c.dimensions _ _ (sym (split d) ∙ (e ∙ split c)) in
+    let k = flows_same m d.flows c.flows _ _ 0 (omega arith) (omega arith) (end_last m _ _) (end_last m _ _) h.1 in
+    λ i. record { dimensions = h.0 i; flows = k.0 i }

@@ -1,7 +1,10 @@
 pub mod Blank
 pub mod Content
+pub mod Fields
 pub mod Format
+pub mod Kinds
 pub mod Reading
-pub mod Inspecting
 pub mod Writing
+pub mod Refusals
+pub mod Inspecting
 pub mod Equal

@@ -6,8 +6,9 @@ mod flow;
 mod model;
 mod reading;
 mod record;
+mod refusal;
 mod writing;
 
 pub use fault::{Fault, Layer, Place};
-pub use flow::{Dimensions, Flow};
+pub use flow::{Dimensions, Flow, NO_FLOW};
 pub use model::Table;

@@ -1,59 +1,65 @@
 // Reading a table file.
-ghost use Rattle.std.specs.Prelude.{◌≤◌};
+ghost use Rattle.std.specs.Prelude.{◌≤◌, length};
 ghost use Rattle.table.specs.declared.record.Kind.TheVariants.{End};
 ghost use Rattle.table.specs.Reading.{Answers, Alone, Settled, Whole};
-ghost use Rattle.table.specs.Inspecting.{Ended};
+ghost use Rattle.table.specs.Inspecting.{Pushed, Ended, Scanned};
 ghost use Rattle.table.specs.Writing.{WritesBack};
 
 use crate::fault::Fault;
 use crate::model::Table;
-use crate::record::{Kind, dimensions_of, flow_of, inspect, refused, word};
+use crate::record::{Kind, Rest};
+use crate::refusal::Refusal;
 
-// The table as it is, where the end record at the front of `rest` has its count and nothing follows.
-fn finish(table: Table, rest: &[u8], at: usize) -> Result<Table, Fault>
-    requires whole { Whole at rest.now End }
-    requires fits { at ≤ 1000 }
-    ensures { Ended table at rest.now result }
+// One flow more, of the flow record at the front.
+fn push(table: &mut Table, rest: &Rest) -> Result<(), Refusal>
+    requires { 12 ≤ length rest.now.bytes.now }
+    ensures { Pushed table.old rest.now.at rest.now.bytes.now table.new result }
 {
-    if word(rest, 4) as usize != table.flows().len() {
-        return Err(refused(5, at));
+    table.add(rest.flow()).or(Err(Refusal::Excess(rest.at)))
+}
+
+// The table as it is, where the end record at the front has its count and nothing follows.
+fn finish(table: Table, rest: &Rest) -> Result<Table, Refusal>
+    requires whole { Whole rest.now.at rest.now.bytes.now End }
+    requires fits { rest.now.at ≤ 1000 }
+    ensures { Ended table rest.now.at rest.now.bytes.now result }
+{
+    if rest.word(4) as usize != table.flows().len() {
+        return Err(Refusal::Miscount(rest.at));
     }
-    if rest.len() > 6 {
-        return Err(refused(6, at + 6));
+    if rest.bytes.len() > 6 {
+        return Err(Refusal::Trailing(rest.at + 6));
     }
     Ok(table)
 }
 
 // Record by record, up to the first that is not as it should be.
-fn scan(bytes: &[u8]) -> Result<Table, Fault>
-    ensures { Answers bytes.now result }
+fn scan(bytes: &[u8]) -> Result<Table, Refusal>
+    ensures { Scanned bytes.now result }
 {
-    let _ = inspect(bytes, 0)?;
-    let mut table = Table::new(dimensions_of(bytes));
+    let head = Rest::new(bytes, 0);
+    head.inspect()?;
+    let mut table = Table::new(head.dimensions());
     loop {
-        let at = 8 + 12 * table.flows().len();
-        let rest = &bytes[at..];
-        match inspect(rest, at)? {
+        let rest = Rest::new(bytes, table.end());
+        match rest.inspect()? {
             // (a head is due at byte 0 alone)
-            Kind::Head => return Err(refused(2, at)),
-            Kind::Flow => {
-                if let Err(_) = table.add(flow_of(rest)) {
-                    return Err(refused(4, at));
-                }
-            }
-            Kind::End => return finish(table, rest, at),
+            Kind::Head => unreachable!(),
+            Kind::Flow => push(&mut table, &rest)?,
+            Kind::End => return finish(table, &rest),
         }
     }
 }
 
 impl Table {
     // The table whose file the bytes are, or the fault of the first record that is not as it should be.
+    #[tactic(auto, using(crate::proofs::Longer::settled, crate::proofs::Laws::writes_back))]
     pub fn read(bytes: &[u8]) -> Result<Table, Fault>
         ensures answer { Answers bytes.now result }
         ensures alone { Alone bytes.now result }
         ensures settled { Settled bytes.now result }
         ensures back { WritesBack bytes.now result }
     {
-        scan(bytes)
+        Ok(scan(bytes)?)
     }
 }

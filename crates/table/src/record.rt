@@ -1,108 +1,140 @@
-// One record of a table file, at the front of the bytes that are left.
-ghost use Rattle.std.specs.Prelude.{◌≡◌, ◌+◌, ◌≤◌, length};
-ghost use Rattle.table.specs.Reading.{refusal, word_at, due_at, body_length};
+// The records of a table file.
+ghost use Rattle.std.specs.Prelude.{◌≡◌, ◌+◌, ◌≤◌, length, drop};
+ghost use Rattle.table.specs.Reading.{word_at, is_due, body_length};
 ghost use Rattle.table.specs.Inspecting.{Opened, Inspected, dimensions_of, flow_of};
 
-use crate::fault::{Fault, Layer, Place};
 use crate::flow::{Dimensions, Flow};
+use crate::refusal::Refusal;
 use quantity::{Depth, Frame, Packets, Rate};
 
-#[derive(Clone, Copy)]
+#[derive(Clone, Copy, PartialEq, Eq, Debug)]
 pub(crate) enum Kind {
     Head,
     Flow,
     End,
 }
 
-pub(crate) fn refused(number: u8, at: usize) -> Fault
-    ensures { result ≡ refusal number at }
-{
-    Fault {
-        number,
-        layer: Layer::File,
-        place: Place::Byte(at),
+// A number that names no kind of record.
+#[derive(Clone, Copy, PartialEq, Eq, Debug)]
+pub(crate) struct UnknownKind(pub(crate) u16);
+
+impl TryFrom<u16> for Kind {
+    type Error = UnknownKind;
+
+    ghost use Rattle.table.specs.Kinds.{Names};
+
+    ghost try_from_gives = { Names };
+
+    fn try_from(number: u16) -> Result<Kind, UnknownKind> {
+        match number {
+            1 => Ok(Kind::Head),
+            2 => Ok(Kind::Flow),
+            3 => Ok(Kind::End),
+            _ => Err(UnknownKind(number)),
+        }
     }
 }
 
-// The two-byte number at `at`.
-pub(crate) fn word(bytes: &[u8], at: usize) -> u16
-    requires { at + 2 ≤ length bytes.now }
-    ensures { result ≡ word_at bytes.now at }
-{
-    bytes[at] as u16 + 256 * bytes[at + 1] as u16
-}
-
-// The kind that a number names, if it is due at byte `at`.
-fn due(at: usize, number: u16) -> Option<Kind>
-    ensures { result ≡ due_at at number }
-{
-    match number {
-        1 if at == 0 => Some(Kind::Head),
-        2 if at != 0 => Some(Kind::Flow),
-        3 if at != 0 => Some(Kind::End),
-        _ => None,
+impl Kind {
+    // The head stands at byte 0, and the others behind it.
+    fn is_due(self, at: usize) -> bool
+        ensures { result ≡ is_due at self }
+    {
+        match self {
+            Kind::Head => at == 0,
+            Kind::Flow | Kind::End => at > 0,
+        }
     }
-}
 
-fn body_length(kind: Kind) -> usize
-    ensures { result ≡ body_length kind }
-{
-    match kind {
-        Kind::Head => 4,
-        Kind::Flow => 8,
-        Kind::End => 2,
+    fn body_length(self) -> usize
+        ensures { result ≡ body_length self }
+    {
+        match self {
+            Kind::Head => 4,
+            Kind::Flow => 8,
+            Kind::End => 2,
+        }
     }
 }
 
-// The kind of the record at the front of `rest`, which stands at byte `at`.
-fn kind_of(rest: &[u8], at: usize) -> Result<Kind, Fault>
-    ensures { Opened at rest.now result }
-{
-    if rest.len() < 4 {
-        return Err(refused(1, at));
-    }
-    match due(at, word(rest, 2)) {
-        Some(kind) => Ok(kind),
-        None => Err(refused(2, at)),
-    }
+// The bytes from a record on, which stands at byte `at` of its file.
+#[derive(Clone, Copy)]
+pub(crate) struct Rest<'a> {
+    pub(crate) at: usize,
+    pub(crate) bytes: &'a [u8],
 }
 
-// The same of a record that is there to its end.
-pub(crate) fn inspect(rest: &[u8], at: usize) -> Result<Kind, Fault>
-    ensures { Inspected at rest.now result }
-{
-    let kind = kind_of(rest, at)?;
-    let length = body_length(kind);
-    if word(rest, 0) as usize != length {
-        return Err(refused(3, at));
+impl<'a> Rest<'a> {
+    // What is left of a file from a byte on.
+    pub(crate) fn new(file: &'a [u8], at: usize) -> Rest<'a>
+        requires { at ≤ length file.now }
+        ensures at { result.at ≡ at }
+        ensures bytes { result.bytes.now ≡ drop at file.now }
+    {
+        Rest {
+            at,
+            bytes: &file[at..],
+        }
     }
-    if rest.len() < 4 + length {
-        return Err(refused(1, at));
-    }
-    Ok(kind)
-}
 
-// What the body of a head says.
-pub(crate) fn dimensions_of(rest: &[u8]) -> Dimensions
-    requires { 8 ≤ length rest.now }
-    ensures { result ≡ dimensions_of rest.now }
-{
-    Dimensions {
-        side: rest[4],
-        depth: Depth(rest[5]),
-        frame: Frame(word(rest, 6)),
+    // The two-byte number at byte `k` of it.
+    pub(crate) fn word(&self, k: usize) -> u16
+        requires { k + 2 ≤ length self.now.bytes.now }
+        ensures { result ≡ word_at self.now.bytes.now k }
+    {
+        u16::from_le_bytes([self.bytes[k], self.bytes[k + 1]])
     }
-}
 
-// What the body of a flow says.
-pub(crate) fn flow_of(rest: &[u8]) -> Flow
-    requires { 12 ≤ length rest.now }
-    ensures { result ≡ flow_of rest.now }
-{
-    Flow {
-        source: (rest[4], rest[5]),
-        destination: (rest[6], rest[7]),
-        burst: Packets(word(rest, 8)),
-        rate: Rate(word(rest, 10)),
+    // What its header says.
+    fn kind(&self) -> Result<Kind, Refusal>
+        ensures { Opened self.now.at self.now.bytes.now result }
+    {
+        if self.bytes.len() < 4 {
+            return Err(Refusal::Cut(self.at));
+        }
+        match Kind::try_from(self.word(2)) {
+            Ok(kind) if kind.is_due(self.at) => Ok(kind),
+            _ => Err(Refusal::Undue(self.at)),
+        }
+    }
+
+    // The kind of the record, if it is there to its end.
+    pub(crate) fn inspect(&self) -> Result<Kind, Refusal>
+        ensures { Inspected self.now.at self.now.bytes.now result }
+    {
+        let kind = self.kind()?;
+        let length = kind.body_length();
+        if self.word(0) as usize != length {
+            return Err(Refusal::Missized(self.at));
+        }
+        if self.bytes.len() < 4 + length {
+            return Err(Refusal::Cut(self.at));
+        }
+        Ok(kind)
+    }
+
+    // What the body of a head says.
+    pub(crate) fn dimensions(&self) -> Dimensions
+        requires { 8 ≤ length self.now.bytes.now }
+        ensures { result ≡ dimensions_of self.now.bytes.now }
+    {
+        Dimensions {
+            side: self.bytes[4],
+            depth: Depth(self.bytes[5]),
+            frame: Frame(self.word(6)),
+        }
+    }
+
+    // What the body of a flow says.
+    pub(crate) fn flow(&self) -> Flow
+        requires { 12 ≤ length self.now.bytes.now }
+        ensures { result ≡ flow_of self.now.bytes.now }
+    {
+        Flow {
+            source: (self.bytes[4], self.bytes[5]),
+            destination: (self.bytes[6], self.bytes[7]),
+            burst: Packets(self.word(8)),
+            rate: Rate(self.word(10)),
+        }
     }
 }

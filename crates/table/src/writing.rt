@@ -1,26 +1,26 @@
 // Writing a table file.
 ghost use Rattle.std.specs.Prelude.{◌≡◌, ◌+◌, ◌*◌, ◌≤◌, length};
 ghost use Rattle.std.specs.List.{flat_map};
-ghost use Rattle.table.specs.Format.{head_record, flow_record, end_record};
-ghost use Rattle.table.specs.Writing.{put_at, file_of, Wrote, OwnFile, ReadsBack};
+ghost use Rattle.table.specs.Format.{head_record, flow_record, end_record, front, encode};
+ghost use Rattle.table.specs.Writing.{put_at, Wrote, OwnFile, ReadsBack};
 
-use crate::fault::{Fault, Layer, Place};
+use crate::fault::Fault;
 use crate::flow::{Dimensions, Flow};
 use crate::model::Table;
+use crate::refusal::Refusal;
 
 // Puts `part` into the place from `at` on.
 fn put(place: &mut [u8], at: usize, part: &[u8])
     requires { at + length part.now ≤ length place.old }
     ensures { place.new ≡ put_at at part.now place.old }
 {
-    let end = at + part.len();
-    place[at..end].copy_from_slice(part);
+    place[at..at + part.len()].copy_from_slice(part);
 }
 
 fn head_record(dimensions: Dimensions) -> [u8; 8]
     ensures { result ≡ head_record dimensions }
 {
-    let q = dimensions.frame.0;
+    let frame = dimensions.frame.0.to_le_bytes();
     [
         4,
         0,
@@ -28,15 +28,16 @@ fn head_record(dimensions: Dimensions) -> [u8; 8]
         0,
         dimensions.side,
         dimensions.depth.0,
-        (q % 256) as u8,
-        (q / 256) as u8,
+        frame[0],
+        frame[1],
     ]
 }
 
 fn flow_record(flow: Flow) -> [u8; 12]
     ensures { result ≡ flow_record flow }
 {
-    let (b, p) = (flow.burst.0, flow.rate.0);
+    let burst = flow.burst.0.to_le_bytes();
+    let rate = flow.rate.0.to_le_bytes();
     [
         8,
         0,
@@ -46,20 +47,22 @@ fn flow_record(flow: Flow) -> [u8; 12]
         flow.source.1,
         flow.destination.0,
         flow.destination.1,
-        (b % 256) as u8,
-        (b / 256) as u8,
-        (p % 256) as u8,
-        (p / 256) as u8,
+        burst[0],
+        burst[1],
+        rate[0],
+        rate[1],
     ]
 }
 
 fn end_record(count: u16) -> [u8; 6]
     ensures { result ≡ end_record count }
 {
-    [2, 0, 3, 0, (count % 256) as u8, (count / 256) as u8]
+    let count = count.to_le_bytes();
+    [2, 0, 3, 0, count[0], count[1]]
 }
 
 // The flow records, from byte 8 on.
+// (by index: of bytes written through `chunks_exact_mut` a proof knows only how many there are)
 fn put_flows(place: &mut [u8], flows: &[Flow])
     requires { 8 + 12 * length flows.now ≤ length place.old }
     ensures { place.new ≡ put_at 8 (flat_map flow_record flows.now) place.old }
@@ -69,47 +72,39 @@ fn put_flows(place: &mut [u8], flows: &[Flow])
     }
 }
 
-// The bytes of a head, so many flows and an end.
-fn length_for(flows: usize) -> usize
-    requires { flows ≤ 64 }
-    ensures { result ≡ 14 + 12 * flows }
-{
-    14 + 12 * flows
-}
-
-// The whole file, where the place is long enough.
-fn put_file(table: &Table, place: &mut [u8]) -> Result<usize, Fault>
-    ensures { Wrote table.now place.old place.new result }
-{
-    let size = table.file_length();
-    if place.len() < size {
-        return Err(Fault {
-            number: 7,
-            layer: Layer::File,
-            place: Place::Nowhere,
-        });
-    }
-    let flows = table.flows();
-    put(place, 0, &head_record(table.dimensions()));
-    put_flows(place, flows);
-    put(place, size - 6, &end_record(flows.len() as u16));
-    Ok(size)
-}
-
 impl Table {
-    // How many bytes the table's file has.
-    pub fn file_length(&self) -> usize
-        ensures { result ≡ length (file_of self.now) }
+    // The byte of the file at which the end record stands, behind the head and the flows.
+    #[tactic(auto, using(crate::proofs::Prefixes::length_front))]
+    pub(crate) fn end(&self) -> usize
+        ensures place { result ≡ length (front self.now) }
+        ensures small { result ≤ 776 }
     {
-        length_for(self.flows().len())
+        8 + 12 * self.flows().len()
+    }
+
+    // How many bytes the table's file has.
+    #[tactic(auto, using(crate::proofs::Places::length_encode, crate::proofs::Prefixes::length_front))]
+    pub fn file_length(&self) -> usize
+        ensures { result ≡ length (encode self.now) }
+    {
+        self.end() + 6
     }
 
     // Writes the table's file to the front of the place, and answers its length.
+    #[tactic(auto, using(crate::proofs::Places::length_encode, crate::proofs::Unique::own_file))]
     pub fn write(&self, place: &mut [u8]) -> Result<usize, Fault>
         ensures wrote { Wrote self.now place.old place.new result }
         ensures own { OwnFile self.now }
         ensures back { ReadsBack self.now place.new result }
     {
-        put_file(self, place)
+        let size = self.file_length();
+        if place.len() < size {
+            return Err(Refusal::Short.into());
+        }
+        let flows = self.flows();
+        put(place, 0, &head_record(self.dimensions()));
+        put_flows(place, flows);
+        put(place, self.end(), &end_record(flows.len() as u16));
+        Ok(size)
     }
 }

@@ -2,6 +2,8 @@
 
 #![tactic(auto)]
 
+ghost use Rattle.std.specs.Prelude.{◌≡◌, Decides};
+
 #[cfg(test)]
 mod tests {
     use quantity::{Depth, Frame, Packets, Rate, Units};
@@ -31,13 +33,35 @@ mod tests {
         Ok(table)
     }
 
+    // The derived `==` of flows is true exactly of equal ones.
+    fn same(f: &Flow, g: &Flow) -> bool
+        ensures { Decides result (f.now ≡ g.now) }
+    {
+        f == g
+    }
+
+    #[test]
+    fn flows_that_differ(rt: HostRuntime) {
+        let burst = Flow {
+            burst: Packets(257),
+            ..FLOW
+        };
+        let rate = Flow {
+            rate: Rate(771),
+            ..FLOW
+        };
+        assert!(rt; same(&FLOW, &FLOW));
+        assert!(rt; !same(&FLOW, &burst));
+        assert!(rt; !same(&FLOW, &rate));
+    }
+
     #[test]
     fn conversions(rt: HostRuntime) {
         assert!(rt; Packets(3).in_units(Frame(400)) == Units(1200));
         assert!(rt; Packets(65535).in_units(Frame(65535)) == Units(4294836225));
-        assert!(rt; Frame(400).in_units() == Units(400));
-        assert!(rt; Rate(100).in_units() == Units(100));
-        assert!(rt; Depth(8).in_packets().0 == 8);
+        assert!(rt; Units::from(Frame(400)) == Units(400));
+        assert!(rt; Units::from(Rate(100)) == Units(100));
+        assert!(rt; Packets::from(Depth(8)).0 == 8);
     }
 
     #[test]

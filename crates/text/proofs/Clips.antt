@@ -1,38 +1,32 @@
 -- One piece after another at the end of a text, each cut off where the room ends.
-use Rattle.std.proofs.Common.{◌≡◌, ℕ, zero, suc, ◌+◌, ◌-◌, ◌≤◌, min, List, [], ◌∷◌, ◌++◌, length, take, sym, refl, ap, ◌∙◌, append_assoc, append-nil, arith, length-take}
-use native.Mathlib.Numerals.{unary_clauses}
-use lib.Seq.{take-append-add}
-use Rattle.text.specs.declared.buffer.Text.{Text}
-use Rattle.text.specs.Said.{said, clipped}
-use Rattle.std.proofs.lemmas.List.{take_all}
+use Rattle.std.proofs.Common.{◌≡◌, ℕ, ◌-◌, ◌≤◌, min, List, [], ◌++◌, length, take, append_assoc, append-nil, arith}
+use Rattle.std.proofs.Math.Seq.{take-append-add}
+use Rattle.std.proofs.lemmas.List.{take_min}
+use Rattle.std.proofs.lemmas.Grind.{common_steps}
+use Rattle.text.specs.Clipped.{clipped, Joins}
 
-take_again : (n : ℕ) (w b : List ℕ) → take n (take n w ++ b) ≡ take n (w ++ b)
-take_again zero w b = refl
-take_again (suc n) [] b = refl
-take_again (suc n) (x ∷ w) b = ap (λ l. x ∷ l) (take_again n w b)
+take_again : (n : ℕ) (s a b : List ℕ) → take n (take n (s ++ a) ++ b) ≡ take n (s ++ (a ++ b))
+take_again n s a b = grind (arith, common_steps)
+
+take_part : (n : ℕ) (s x : List ℕ) → length s ≤ n → s ++ take (min (n - length s) (length x)) x ≡ take n (s ++ x)
+take_part n s x h = grind (arith, common_steps, take_min, take-append-add s x (n - length s))
 
 -- what was cut off before is cut off again
 pub clipped_more : (s a b : List ℕ) → clipped (clipped (s ++ a) ++ b) ≡ clipped (s ++ (a ++ b))
-clipped_more s a b = take_again 8192 (s ++ a) b ∙ ap clipped (append_assoc s a b)
+clipped_more = take_again 8192
 
-pub joined : {t u : List ℕ} (s a b : List ℕ) → t ≡ clipped (s ++ a) → u ≡ clipped (t ++ b) → u ≡ clipped (s ++ (a ++ b))
-joined s a b p q = q ∙ (ap (λ l. clipped (l ++ b)) p ∙ clipped_more s a b)
+-- s, and of x what there is room for
+pub clipped_part : (s x : List ℕ) → length s ≤ 8192 → s ++ take (min (8192 - length s) (length x)) x ≡ clipped (s ++ x)
+clipped_part = take_part 8192
 
--- what is short enough is whole
-pub clipped_short : (s : List ℕ) → length s ≤ 8192 → clipped s ≡ s
-clipped_short s h = take_all 8192 s h
+-- one piece
+pub joins_one : (t x u : List ℕ) → u ≡ clipped (t ++ x) → Joins t (λ a. a ++ x) u
+joins_one t x u e s a h = grind (arith, clipped_more)
 
-take_least : (n : ℕ) (p : List ℕ) → take (min (length p) n) p ≡ take n p
-take_least zero p = simp unary_clauses
-take_least (suc n) [] = simp unary_clauses
-take_least (suc n) (x ∷ p) = simp unary_clauses (ap (λ l. x ∷ l) (take_least n p))
+-- no piece
+pub joins_none : (t : List ℕ) → Joins t (λ a. a ++ []) t
+joins_none t s a h = rw append-nil h
 
--- s, and of p what there is room for
-pub clipped_part : (s p : List ℕ) → length s ≤ 8192 → s ++ take (min (length p) (8192 - length s)) p ≡ clipped (s ++ p)
-clipped_part s p h =
-    let room : 8192 ≡ length s + (8192 - length s) = omega arith in
-    ap (λ l. s ++ l) (take_least (8192 - length s) p) ∙ sym (ap (λ m. take m (s ++ p)) room ∙ take-append-add s p (8192 - length s))
-
--- a text with nothing more
-pub said_whole : (t : Text) → said t ≡ clipped (said t ++ [])
-said_whole t = sym (ap clipped (append-nil (said t)) ∙ clipped_short (said t) (simp length-take (omega arith)))
+-- one piece and another
+pub joins_more : (t x u y v : List ℕ) → Joins t (λ a. a ++ x) u → Joins u (λ a. a ++ y) v → Joins t (λ a. a ++ (x ++ y)) v
+joins_more t x u y v p q s a h = rw (← append_assoc a x y) (q s (a ++ x) (p s a h))

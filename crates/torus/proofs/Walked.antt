@@ -1,5 +1,5 @@
 -- Through flows and north flows are those whose walk passes the router.
-use Rattle.std.proofs.Common.{◌≡◌, ℕ, ◌+◌, ◌-◌, ◌%◌, ◌<◌, ◌≤◌, sym, ap, ◌∙◌, ⊎_elim, arith}
+use Rattle.std.proofs.Common.{◌≡◌, ℕ, ◌+◌, ◌-◌, ◌%◌, ◌<◌, ◌≤◌, Bool, sym, subst, ap, ◌∙◌, ⊎_elim, arith}
 use Rattle.std.proofs.lemmas.Nat.{mod_below}
 use Rattle.std.proofs.lemmas.Bool.{cases_lt, and_parts, and_from, ltb-true, leb-true, eqb-true, lt-ltb, le-leb, eq-eqb}
 use Rattle.std.proofs.lemmas.Bool.Decides.{nat_tests}
@@ -26,8 +26,8 @@ only m a b j h l e =
     (λ (k : m ≤ a + j). let s : (a + j) % m ≡ a + j - m = ap (λ n. n % m) (omega arith) ∙ mod_once m (a + j - m) (omega arith) in grind (arith, nat_tests))
     (cases_lt (a + j) m)
 
-pub walks_north : (m : ℕ) (f : Flow) (r : ℕ × ℕ) → WalksNorth m f r (north m f r)
-walks_north m f r ((xs, ys, xd, yd), x, y) =
+north_way : (m : ℕ) (f : Flow) (r : ℕ × ℕ) → WalksNorth m f r (north m f r)
+north_way m f r ((xs, ys, xd, yd), x, y) =
     let a = f.source.1 in
     let whole : ahead m a f.destination.1 ≡ souths m f = ahead_ring m a f.destination.1 ys yd in (
       (λ h.
@@ -41,8 +41,12 @@ walks_north m f r ((xs, ys, xd, yd), x, y) =
           and_from _ _ (eq-eqb _ _ (sym w.3)) (and_from _ _ (lt-ltb 0 (ahead m a r.1) (omega (arith, steps, w.1))) (le-leb (ahead m a r.1) (ahead m a f.destination.1) (omega (arith, steps, w.2, whole))))),
     )
 
-pub walks_through : (m : ℕ) (f : Flow) (r : ℕ × ℕ) → WalksThrough m f r (through m f r)
-walks_through m f r ((xs, ys, xd, yd), x, y) =
+-- a test that answers as `north` does decides the walk
+pub walks_north : (m : ℕ) (f : Flow) (r : ℕ × ℕ) (b : Bool) → b ≡ north m f r → WalksNorth m f r b
+walks_north m f r b e = subst (WalksNorth m f r) (sym e) (north_way m f r)
+
+through_way : (m : ℕ) (f : Flow) (r : ℕ × ℕ) → WalksThrough m f r (through m f r)
+through_way m f r ((xs, ys, xd, yd), x, y) =
     let a = f.source.0 in
     let whole : ahead m a f.destination.0 ≡ easts m f = ahead_ring m a f.destination.0 xs xd in (
       (λ h.
@@ -55,6 +59,10 @@ walks_through m f r ((xs, ys, xd, yd), x, y) =
           let steps = only m a r.0 j xs round w.3 in
           and_from _ _ (eq-eqb _ _ (sym w.4)) (and_from _ _ (lt-ltb 0 (ahead m a r.0) (omega (arith, steps, w.1))) (lt-ltb (ahead m a r.0) (ahead m a f.destination.0) (omega (arith, steps, w.2, whole))))),
     )
+
+-- a test that answers as `through` does decides the walk
+pub walks_through : (m : ℕ) (f : Flow) (r : ℕ × ℕ) (b : Bool) → b ≡ through m f r → WalksThrough m f r b
+walks_through m f r b e = subst (WalksThrough m f r) (sym e) (through_way m f r)
 
 pub walks_hops : (m : ℕ) (f : Flow) → WalksHops m f (hops m f)
 walks_hops m f (xs, ys, xd, yd) =

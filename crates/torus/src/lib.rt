@@ -5,8 +5,8 @@
 mod paths;
 mod routers;
 
-pub use paths::{hops, north, through, turn, turns, turns_at};
-pub use routers::{east, index_of, router_at, south};
+pub use paths::{turn, turns, turns_at};
+pub use routers::Torus;
 
 #[cfg(test)]
 mod tests;

@@ -14,8 +14,9 @@ fn neighbours(rt: HostRuntime) {
         (255, (254, 254), (0, 254), (254, 0)),
     ];
     for (side, router, to_east, to_south) in cases {
-        assert!(rt; east(side, router) == to_east);
-        assert!(rt; south(side, router) == to_south);
+        let torus = Torus { side };
+        assert!(rt; torus.east(router) == to_east);
+        assert!(rt; torus.south(router) == to_south);
     }
 }
 
@@ -30,13 +31,14 @@ fn numbers(rt: HostRuntime) {
         (255, 65024, (254, 254)),
     ];
     for (side, index, router) in cases {
-        assert!(rt; router_at(side, index) == Some(router));
-        assert!(rt; index_of(side, router) == Some(index));
+        let torus = Torus { side };
+        assert!(rt; torus.router_at(index) == Some(router));
+        assert!(rt; torus.index_of(router) == Some(index));
     }
-    assert!(rt; router_at(0, 0) == None);
-    assert!(rt; router_at(3, 9) == None);
-    assert!(rt; index_of(3, (3, 0)) == None);
-    assert!(rt; index_of(3, (0, 3)) == None);
+    assert!(rt; Torus { side: 0 }.router_at(0) == None);
+    assert!(rt; Torus { side: 3 }.router_at(9) == None);
+    assert!(rt; Torus { side: 3 }.index_of((3, 0)) == None);
+    assert!(rt; Torus { side: 3 }.index_of((0, 3)) == None);
 }
 
 // Each flow drawn row by row: s its source, > through, t its turn, v from the north.
@@ -59,23 +61,24 @@ fn paths(rt: HostRuntime) {
             burst: Packets(1),
             rate: Rate(100),
         };
+        let torus = Torus { side };
         let mut router = (0, 0);
         let mut corner = None;
         for mark in drawing {
             if *mark == b' ' {
-                router = south(side, router);
+                router = torus.south(router);
                 continue;
             }
             if *mark == b't' {
                 corner = Some(router);
             }
             assert!(rt; turns_at(&flow, router) == (*mark == b't'));
-            assert!(rt; through(side, &flow, router) == (*mark == b'>'));
-            assert!(rt; north(side, &flow, router) == (*mark == b'v'));
-            router = east(side, router);
+            assert!(rt; torus.through(&flow, router) == (*mark == b'>'));
+            assert!(rt; torus.north(&flow, router) == (*mark == b'v'));
+            router = torus.east(router);
         }
         assert!(rt; turn(&flow) == corner);
         assert!(rt; turns(&flow) == corner.is_some());
-        assert!(rt; hops(side, &flow).0 == steps);
+        assert!(rt; torus.hops(&flow).0 == steps);
     }
 }

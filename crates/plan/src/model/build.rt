@@ -1,18 +1,16 @@
 // Making plans.
-ghost use Rattle.std.specs.Prelude.{◌≡◌, length};
-ghost use Rattle.table.specs.Content.{content};
+ghost use Rattle.std.specs.Prelude.{◌≡◌, Ok};
 ghost use Rattle.bounds.specs.Sums.{units_of};
-ghost use Rattle.bounds.specs.Bounds.{side, LeastBursts};
-ghost use Rattle.bounds.specs.Bursts.{Ends};
+ghost use Rattle.bounds.specs.Bounds.{side};
+ghost use Rattle.bounds.specs.Bursts.{Bounded};
 ghost use Rattle.plan.specs.Order.{Nowhere};
-ghost use Rattle.plan.specs.Plans.{table_of, empty_table, Sound, shallow};
+ghost use Rattle.plan.specs.Plans.{empty_table, Sound, shallow};
 ghost use Rattle.plan.specs.Refusals.{Admits, Admitted, Alone};
 ghost use Rattle.plan.specs.Loading.{Loaded};
 
 use super::Plan;
-use crate::admission::{Shallow, check};
+use crate::admission::{check, is_shallow};
 use crate::backlogs::backlogs;
-use crate::draft::Draft;
 use crate::fault::PlanFault;
 use crate::refusal::Refusal;
 use crate::routers::first_router;
@@ -22,47 +20,33 @@ use table::{Dimensions, Fault, Table};
 
 // The plan of a table that was checked, with its least bursts.
 fn complete(table: &Table, bursts: [Units; 64]) -> Plan
-    requires sound { Sound (content table.now) }
-    requires least { LeastBursts (content table.now) (units_of bursts) }
-    requires long { length bursts ≡ 64 }
-    requires ends { Ends (content table.now) bursts }
-    requires deep { Nowhere (side (content table.now)) (shallow (content table.now) (units_of bursts)) }
-    ensures { table_of result.draft ≡ content table.now }
+    requires sound { Sound table.now }
+    requires least { Bounded table.now (Ok bursts) }
+    requires deep { Nowhere (side table.now) (shallow table.now (units_of bursts)) }
+    ensures { result.table ≡ table.now }
 {
-    let backlogs = backlogs(table, &bursts);
     Plan {
-        draft: Draft {
-            table: *table,
-            bursts,
-            backlogs,
-        },
+        table: *table,
+        bursts,
+        backlogs: backlogs(table, &bursts),
     }
 }
 
 // The plan of a table, or the first reason against it.
-pub(crate) fn plan_of(table: &Table) -> Result<Plan, Refusal>
-    ensures { Admits (content table.now) result }
+fn plan_of(table: &Table) -> Result<Plan, Refusal>
+    ensures { Admits table.now result }
 {
     check(table)?;
-    let Ok(bursts) = least_bursts(table) else {
-        return Err(Refusal::Unbounded);
-    };
-    let side = table.dimensions().side;
-    match first_router(
-        side,
-        &Shallow {
-            table,
-            bursts: &bursts,
-        },
-    ) {
-        None => Ok(complete(table, bursts)),
-        Some(router) => Err(Refusal::Shallow(router)),
+    let bursts = least_bursts(table).map_err(|_| Refusal::Unbounded)?;
+    if let Some(router) = first_router(table, |router| is_shallow(table, &bursts, router)) {
+        return Err(Refusal::Shallow(router));
     }
+    Ok(complete(table, bursts))
 }
 
 // The table of a place for a plan as it starts.
 fn no_flows() -> Table
-    ensures { content result ≡ empty_table }
+    ensures { result ≡ empty_table }
 {
     Table::new(Dimensions {
         side: 2,
@@ -74,21 +58,15 @@ fn no_flows() -> Table
 impl Plan {
     // What a place for a plan starts as: no flows on the smallest torus.
     pub fn empty() -> Plan
-        ensures { table_of result.draft ≡ empty_table }
+        ensures { result.table ≡ empty_table }
     {
         complete(&no_flows(), [Units(0); 64])
     }
 
     // Puts the table's plan in this place; a refusal leaves it as it was.
     pub fn admit(&mut self, table: &Table) -> Result<(), Fault>
-        ensures answer { Admitted (content table.now) self.old self.new result }
-        ensures alone { Alone (content table.now) self.new result }
-    {
-        self.fill(table)
-    }
-
-    fn fill(&mut self, table: &Table) -> Result<(), Fault>
-        ensures { Admitted (content table.now) self.old self.new result }
+        ensures answer { Admitted table.now self.old self.new result }
+        ensures alone { Alone table.now self.new result }
     {
         *self = plan_of(table)?;
         Ok(())

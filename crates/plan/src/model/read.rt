@@ -1,56 +1,44 @@
 // What a plan tells.
-ghost use Rattle.std.specs.Prelude.{◌≡◌, ◌<◌};
-ghost use Rattle.bounds.specs.Sums.{count};
-ghost use Rattle.plan.specs.Plans.{table_of, bursts_of};
-ghost use Rattle.plan.specs.Told.{flow_bounds, flow_told, Small, FlowSmall, router_told, RouterSmall};
+ghost use Rattle.std.specs.Prelude.{◌≡◌};
+ghost use Rattle.plan.specs.Told.{flow_told, FlowSmall, router_told, RouterSmall};
 
 use super::Plan;
 use crate::told::{FlowBounds, RouterBounds};
-use bounds::{is_turn, latency, turn_delay, wait};
+use bounds::{Bounds, is_turn};
 use quantity::Packets;
 use table::Table;
-use torus::{hops, index_of};
+use torus::Torus;
 
 impl Plan {
-    // The bounds of flow `k`, counted from 0.
-    fn bounds_of(&self, k: usize) -> FlowBounds
-        requires { k < count (table_of self.now.draft) }
-        ensures value { result ≡ flow_bounds (table_of self.now.draft) (bursts_of self.now.draft) k }
-        ensures small { Small result }
-    {
-        let table = &self.draft.table;
-        let bursts = &self.draft.bursts;
-        FlowBounds {
-            burst: bursts[k],
-            wait: wait(table, bursts, k),
-            turn: turn_delay(table, bursts, k),
-            hops: hops(table.dimensions().side, &table.flows()[k]),
-            latency: latency(table, bursts, k),
-        }
-    }
-
     // The bounds of a flow by its number, which counts from 1.
     pub fn flow(&self, number: usize) -> Option<FlowBounds>
-        ensures value { result ≡ flow_told (table_of self.now.draft) (bursts_of self.now.draft) number }
+        ensures value { result ≡ flow_told self.now number }
         ensures small { FlowSmall result }
     {
-        if 1 <= number && number <= self.draft.table.flows().len() {
-            return Some(self.bounds_of(number - 1));
-        }
-        None
+        let k = number.checked_sub(1)?;
+        let flow = self.table.flows().get(k)?;
+        let bounds = Bounds {
+            table: &self.table,
+            bursts: &self.bursts,
+        };
+        Some(FlowBounds {
+            burst: self.bursts[k],
+            wait: bounds.wait(k),
+            turn: bounds.turn_delay(k),
+            hops: Torus::from(self.table.dimensions()).hops(flow),
+            latency: bounds.latency(k),
+        })
     }
 
     // The bounds of a router's queue.
     pub fn router(&self, router: (u8, u8)) -> Option<RouterBounds>
-        ensures value { result ≡ router_told (table_of self.now.draft) (bursts_of self.now.draft) router }
+        ensures value { result ≡ router_told self.now router }
         ensures small { RouterSmall result }
     {
-        let Some(k) = index_of(self.draft.table.dimensions().side, router) else {
-            return None;
-        };
-        let backlog = self.draft.backlogs[k];
+        let k = Torus::from(self.table.dimensions()).index_of(router)?;
+        let backlog = self.backlogs[k];
         Some(RouterBounds {
-            turns: is_turn(&self.draft.table, router),
+            turns: is_turn(&self.table, router),
             backlog,
             depth: Packets(backlog.0 + 1),
         })
@@ -58,8 +46,8 @@ impl Plan {
 
     // The table that was admitted.
     pub fn table(&self) -> &Table
-        ensures { result.now ≡ self.now.draft.table }
+        ensures { result.now ≡ self.now.table }
     {
-        &self.draft.table
+        &self.table
     }
 }

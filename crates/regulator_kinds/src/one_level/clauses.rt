@@ -1,13 +1,11 @@
 // What the one-level kind does.
 ghost use Rattle.std.specs.Prelude.{◌≡◌};
 ghost use Rattle.regulator_kinds.specs.Kinds.{one_level};
-ghost use Rattle.std.proofs.Common.{rules, arith};
 
 use super::OneLevel;
-use crate::bucket::Bucket;
 use plan::Plan;
-use quantity::{Frame, Packets, Rate, Units};
-use regulator::Regulator;
+use quantity::Units;
+use regulator::{Bucket, Regulator};
 use table::Fault;
 
 impl OneLevel {
@@ -22,7 +20,13 @@ impl OneLevel {
 impl Regulator for OneLevel {
     ghost meaning = { one_level };
 
-    ghost lawful = { first_of (Prim.search rules, Prim.grind (arith, Self.row.coded.inj)) };
+    ghost lawful = { λ x.
+        record {
+          burst = x.bucket.bursts;
+          frame = x.bucket.frames;
+          rate = x.bucket.rates;
+          allowance = x.within;
+        } };
 
     fn fresh(plan: &Plan, number: usize) -> Result<OneLevel, Fault> {
         let bucket = Bucket::of_flow(plan, number)?;
@@ -32,33 +36,24 @@ impl Regulator for OneLevel {
         })
     }
 
-    fn burst(&self) -> Packets {
-        self.bucket.burst
-    }
-
-    fn rate(&self) -> Rate {
-        self.bucket.rate
-    }
-
-    fn frame(&self) -> Frame {
-        self.bucket.frame
+    fn bucket(&self) -> Bucket {
+        self.bucket
     }
 
     fn covered(&self) -> bool {
-        self.bucket.frame.in_units().0 <= self.level.0
+        Units::from(self.bucket.frame).0 <= self.level.0
     }
 
     fn take(&mut self) -> bool {
-        let packet = self.bucket.frame.in_units();
-        if self.level.0 < packet.0 {
+        let Some(left) = self.level.0.checked_sub(Units::from(self.bucket.frame).0) else {
             return false;
-        }
-        self.level = Units(self.level.0 - packet.0);
+        };
+        self.level = Units(left);
         true
     }
 
     fn pass(&mut self) {
-        let risen = self.level.0 + self.bucket.rate.in_units().0;
+        let risen = self.level.0 + Units::from(self.bucket.rate).0;
         self.level = Units(risen.min(self.bucket.full().0));
     }
 }

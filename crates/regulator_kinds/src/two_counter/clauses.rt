@@ -4,10 +4,9 @@ ghost use Rattle.regulator_kinds.specs.Kinds.{two_counter};
 ghost use Rattle.regulator_kinds.specs.Counters.{at_most};
 
 use super::TwoCounter;
-use crate::bucket::Bucket;
 use plan::Plan;
-use quantity::{Frame, Packets, Rate, Units};
-use regulator::Regulator;
+use quantity::{Packets, Units};
+use regulator::{Bucket, Regulator};
 use table::Fault;
 
 impl TwoCounter {
@@ -46,16 +45,8 @@ impl Regulator for TwoCounter {
         })
     }
 
-    fn burst(&self) -> Packets {
-        self.bucket.burst
-    }
-
-    fn rate(&self) -> Rate {
-        self.bucket.rate
-    }
-
-    fn frame(&self) -> Frame {
-        self.bucket.frame
+    fn bucket(&self) -> Bucket {
+        self.bucket
     }
 
     fn covered(&self) -> bool {
@@ -63,10 +54,10 @@ impl Regulator for TwoCounter {
     }
 
     fn take(&mut self) -> bool {
-        if self.tokens.0 == 0 {
+        let Some(left) = self.tokens.0.checked_sub(1) else {
             return false;
-        }
-        self.tokens = Packets(self.tokens.0 - 1);
+        };
+        self.tokens = Packets(left);
         true
     }
 
@@ -75,8 +66,8 @@ impl Regulator for TwoCounter {
         if self.tokens.0 == self.bucket.burst.0 {
             return;
         }
-        let packet = self.bucket.frame.in_units();
-        let risen = self.phase.0 + self.bucket.rate.in_units().0;
+        let packet = Units::from(self.bucket.frame);
+        let risen = self.phase.0 + Units::from(self.bucket.rate).0;
         if risen < packet.0 {
             self.phase = Units(risen);
             return;

@@ -1,15 +1,16 @@
 // Building a table, and what it tells.
-ghost use Rattle.std.specs.Prelude.{◌≡◌, ◌<◌, [], MatchOption};
-ghost use Rattle.table.specs.Content.{content, Added};
+ghost use Rattle.std.specs.Prelude.{◌≡◌, ◌≤◌, [], length};
+ghost use Rattle.table.specs.Content.{Added};
 
 use super::Table;
-use crate::fault::{Fault, Layer, Place};
+use crate::fault::Fault;
 use crate::flow::{Dimensions, Flow, NO_FLOW};
+use crate::refusal::Refusal;
 
 impl Table {
     // A table without flows.
     pub fn new(dimensions: Dimensions) -> Table
-        ensures { content result ≡ record { dimensions = dimensions; flows = [] } }
+        ensures { result ≡ record { dimensions = dimensions; flows = [] } }
     {
         Table {
             dimensions,
@@ -19,41 +20,28 @@ impl Table {
     }
 
     pub fn dimensions(&self) -> Dimensions
-        ensures { result ≡ (content self.now).dimensions }
+        ensures { result ≡ self.now.dimensions }
     {
         self.dimensions
     }
 
     // The flows in the order in which they were added: flow 1 first.
     pub fn flows(&self) -> &[Flow]
-        ensures { result.now ≡ (content self.now).flows }
+        ensures value { result.now ≡ self.now.flows }
+        ensures few { length self.now.flows ≤ 64 }
     {
-        &self.flows[0..self.count]
-    }
-
-    // The entry that one flow more takes, if there is one.
-    fn free_entry(&self) -> Option<usize>
-        ensures { MatchOption result (self.now.count ≡ 64) (λ k. (k ≡ self.now.count) × (k < 64)) }
-    {
-        if self.count < 64 {
-            return Some(self.count);
-        }
-        None
+        &self.flows[..self.count]
     }
 
     // One flow more at the end; the 65th is refused.
     pub fn add(&mut self, flow: Flow) -> Result<(), Fault>
         ensures { Added self.old flow self.new result }
     {
-        let Some(at) = self.free_entry() else {
-            return Err(Fault {
-                number: 4,
-                layer: Layer::File,
-                place: Place::Flow(65),
-            });
-        };
-        self.flows[at] = flow;
-        self.count = at + 1;
+        if self.count == self.flows.len() {
+            return Err(Refusal::Full.into());
+        }
+        self.flows[self.count] = flow;
+        self.count += 1;
         Ok(())
     }
 }

@@ -6,7 +6,7 @@ ghost use Rattle.table.specs.Equal.{same_table, same_table_equiv};
 use super::Table;
 use crate::flow::Dimensions;
 
-// Equal dimensions and equal flows are an equal value.
+// Written out, since of a derived `==`, which reads all 64 entries, no caller's check finds `same`.
 impl PartialEq for Table {
     ghost eq = { same_table };
 

@@ -1,28 +1,27 @@
-use Rattle.std.proofs.Common.{◌+◌, ◌++◌, get_or, drop, sym, ap, ◌∙◌, arith, below_more}
-use Rattle.std.proofs.lemmas.List.{at_drop_more, at_drop_all}
+use Rattle.std.proofs.Common.{◌≡◌, ℕ, ◌+◌, List, [], ◌∷◌, ◌++◌, length, get_or, take, sym, ap, ◌∙◌, append_assoc, append-nil, arith, below_more}
+use Rattle.std.proofs.lemmas.List.{take_more, take_all, length-take-le}
+use Rattle.table.specs.declared.flow.Flow.{Flow}
 use Rattle.table.specs.Blank.{blank}
-use Rattle.text.specs.Said.{said, clipped}
-use Rattle.text.proofs.Clips.{clipped_more, said_whole}
+use Rattle.text.proofs.Clips.{joins_one, joins_more}
 use Rattle.listing.specs.Lines.{flow_line, flow_lines}
 use Rattle.listing.proofs.lines.flow_lines.Goals as goal
+
+-- the line of one flow more
+flow_lines_more : (n m : ℕ) (fs : List Flow) (f : Flow) → n + length fs ≡ m → flow_lines n (fs ++ f ∷ []) ≡ flow_lines n fs ++ flow_line m f
+flow_lines_more n m [] f h = let same : n ≡ m = omega arith in rw same (append-nil (flow_line m f))
+flow_lines_more n m (g ∷ fs) f h = ap (λ l. flow_line n g ++ l) (flow_lines_more (n + 1) m fs f (omega arith)) ∙ sym (append_assoc (flow_line n g) (flow_lines (n + 1) fs) (flow_line m f))
 
 pub loop-i-preserved : goal.loop-i-preserved
 loop-i-preserved c =
     let i = c.loop-i.i in
     let fs = c.args.flows.now in
-    let s = said c.loop-i.text in
-    let rest = flow_lines ((i + 1) + 1) (drop (i + 1) fs) in
-    let next = at_drop_more (flow_lines (i + 1)) fs i blank (omega arith) in (
-      ap (λ u. clipped (u ++ rest)) c.flow_line.ensures.says
-          ∙ (clipped_more s (flow_line (i + 1) (get_or fs i blank)) rest ∙ (ap (λ r. clipped (s ++ r)) (sym next) ∙ c.loop-i.invariant.0)),
+    let full = length-take-le i fs (omega arith) in
+    let more = ap (flow_lines 1) (take_more fs i blank (omega arith)) ∙ flow_lines_more 1 (i + 1) (take i fs) (get_or fs i blank) (omega arith) in (
+      rw more (joins_more _ _ _ _ _ c.loop-i.invariant.0 (joins_one _ _ _ c.flow_line.ensures.says)),
       below_more _ i c.loop-i.invariant.1 c.flow_line.ensures.small,
     )
 
 pub returns : goal.returns
 returns c =
-    let t = c.loop-i.text in
-    let none = at_drop_all (flow_lines (c.loop-i.i + 1)) c.args.flows.now c.loop-i.i (omega arith) in
-    record {
-      says = said_whole t ∙ (ap (λ r. clipped (said t ++ r)) (sym none) ∙ c.loop-i.invariant.0);
-      small = λ k h. c.loop-i.invariant.1 k (omega arith);
-    }
+    let all = take_all c.loop-i.i c.args.flows.now (omega arith) in
+    record { says = rw all at c.loop-i.invariant.0; small = λ k h. c.loop-i.invariant.1 k (omega arith) }

@@ -1,8 +1,6 @@
 use Rattle.std.proofs.Common.{◌+◌, ◌≤◌, ◌++◌, length, ap, ◌∙◌, subst, arith}
-use Rattle.bounds.proofs.Counts.{count_few}
-use Rattle.plan.specs.Plans.{table_of, bursts_of}
 use Rattle.plan.specs.Told.{FlowSmall}
-use Rattle.text.specs.Said.{said, clipped}
+use Rattle.text.specs.Clipped.{clipped}
 use Rattle.listing.specs.Plans.{bounds_line}
 use Rattle.listing.proofs.Lengths.{bounds_short}
 use Rattle.listing.proofs.There.{flow_told_lem}
@@ -10,12 +8,12 @@ use Rattle.listing.proofs.plans.bounds_at.Goals as goal
 
 pub returns : goal.returns
 returns c =
-    let d = c.args.plan.now.draft in
+    let p = c.args.plan.now in
     let k = c.args.k in
     let b = c.unwrap-bounds.result in
-    let told = flow_told_lem (table_of d) (bursts_of d) k c.flow.result b c.requires c.flow.ensures.value c.unwrap-bounds.ensures in
+    let told = flow_told_lem p k c.flow.result b c.requires.within c.flow.ensures.value c.unwrap-bounds.ensures in
     let small = subst FlowSmall c.unwrap-bounds.ensures c.flow.ensures.small in
     record {
-      says = c.bounds_line.ensures ∙ ap (λ e. clipped (said c.args.text.now ++ bounds_line (k + 1) e)) told;
-      small = subst (λ e. length (bounds_line (k + 1) e) ≤ 88) told (bounds_short (k + 1) b (omega (arith, c.requires, count_few d.table)) small);
+      says = c.bounds_line.ensures ∙ ap (λ e. clipped (c.args.text.now ++ bounds_line (k + 1) e)) told;
+      small = subst (λ e. length (bounds_line (k + 1) e) ≤ 88) told (bounds_short (k + 1) b (omega (arith, c.requires.small)) small);
     }

@@ -1,7 +1,6 @@
-use Rattle.plan.specs.Plans.{table_of, bursts_of}
 use Rattle.listing.specs.Plans.{bounds_at}
 use Rattle.listing.proofs.Pieces.{Lined}
 use Rattle.listing.proofs.plans.bounds_lines.Given as goal
 
 abbrev pub invariant-loop-k : goal.invariant-loop-k
-invariant-loop-k l = Lined l.initial.text l.text 88 l.k (bounds_at (table_of l.plan.draft) (bursts_of l.plan.draft))
+invariant-loop-k l = Lined l.initial.text l.text 88 l.k (bounds_at l.plan)

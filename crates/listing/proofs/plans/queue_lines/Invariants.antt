@@ -1,7 +1,6 @@
-use Rattle.plan.specs.Plans.{table_of, bursts_of}
 use Rattle.listing.specs.Plans.{queue_row}
 use Rattle.listing.proofs.Pieces.{Lined}
 use Rattle.listing.proofs.plans.queue_lines.Given as goal
 
 abbrev pub invariant-loop-y : goal.invariant-loop-y
-invariant-loop-y l = Lined l.initial.text l.text 264 l.y (queue_row (table_of l.plan.draft) (bursts_of l.plan.draft))
+invariant-loop-y l = Lined l.initial.text l.text 264 l.y (queue_row l.plan)

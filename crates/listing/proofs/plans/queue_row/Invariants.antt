@@ -1,7 +1,6 @@
-use Rattle.plan.specs.Plans.{table_of, bursts_of}
 use Rattle.listing.specs.Plans.{queue_at}
 use Rattle.listing.proofs.Pieces.{Lined}
 use Rattle.listing.proofs.plans.queue_row.Given as goal
 
 abbrev pub invariant-loop-x : goal.invariant-loop-x
-invariant-loop-x l = Lined l.initial.text l.text 33 l.x (λ column. queue_at (table_of l.plan.draft) (bursts_of l.plan.draft) (column, l.y))
+invariant-loop-x l = Lined l.initial.text l.text 33 l.x (λ column. queue_at l.plan (column, l.y))

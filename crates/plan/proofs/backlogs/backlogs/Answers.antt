@@ -1,17 +1,12 @@
-use Rattle.std.proofs.Common.{◌<◌, ◌≢◌, length, ap, ◌∙◌, arith, below_more}
-use Rattle.std.proofs.lemmas.List.{length-set, get_or-set_same, get_or-set_other}
-use Rattle.quantity.specs.declared.Packets.{Packets}
+use Rattle.std.proofs.Common.{◌≡◌, rules}
+use Rattle.torus.specs.Paths.{router_at}
+use Rattle.bounds.specs.Sums.{units_of}
+use Rattle.bounds.specs.Bounds.{side}
+use Rattle.plan.specs.Stored.{stored}
+use Rattle.bounds.proofs.Arrays.{each_made}
 use Rattle.plan.proofs.backlogs.backlogs.Goals as goal
 
-pub loop-k-preserved : goal.loop-k-preserved
-loop-k-preserved c =
-    let k = c.loop-k.k in
-    let ps = c.loop-k.packets in
-    let p = c.backlog_at.result in
-    let none : Packets = record { 0 = 0 } in
-    let in-k : k < length ps = omega (arith, c.loop-k.invariant.0) in (
-      length-set ps k p ∙ c.loop-k.invariant.0,
-      below_more _ _
-          (λ j h. let ne : j ≢ k = omega arith in ap (λ (q : Packets). q.0) (get_or-set_other ps k j p none ne) ∙ c.loop-k.invariant.1 j h)
-          (ap (λ (q : Packets). q.0) (get_or-set_same ps k p none in-k) ∙ c.backlog_at.ensures),
-    )
+pub returns-clause-each : goal.returns-clause-each
+returns-clause-each c k h =
+    let t = c.args.table.now in
+    each_made _ _ (λ i p. p.0 ≡ stored t (units_of c.args.bursts.now) (router_at (side t) i)) (λ i y q e. search rules) _ 64 c.from_fn.ensures.items k _ h

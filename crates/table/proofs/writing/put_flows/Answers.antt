@@ -1,14 +1,11 @@
-use Rattle.std.proofs.Common.{◌≡◌, ◌+◌, ◌*◌, length, get_or, take, sym, arith}
+use Rattle.std.proofs.Common.{◌≡◌, ◌+◌, ◌*◌, length, get_or, take, arith}
 use Rattle.std.specs.List.{flat_map}
-use Rattle.std.proofs.lemmas.List.{take-append-drop, take_all, length-take-le}
+use Rattle.std.proofs.lemmas.List.{length-take-le}
 use Rattle.table.specs.Blank.{blank}
 use Rattle.table.specs.Format.{flow_record}
 use Rattle.table.proofs.Prefixes.{length_flows}
 use Rattle.table.proofs.Places.{put_put, flows_more}
 use Rattle.table.proofs.writing.put_flows.Goals as goal
-
-pub loop-i-init : goal.loop-i-init
-loop-i-init c = sym (take-append-drop 8 c.args.place.now)
 
 pub loop-i-preserved : goal.loop-i-preserved
 loop-i-preserved c =
@@ -20,6 +17,3 @@ loop-i-preserved c =
     let next = flows_more fs i blank (omega arith) in
     rw (c.put.ensures, c.loop-i.invariant, c.flow_record.ensures, next)
     (put_put 8 (8 + 12 * i) done (flow_record (get_or fs i blank)) c.args.place.now long (omega arith))
-
-pub returns : goal.returns
-returns c = let all = take_all c.loop-i.i c.args.flows.now (omega arith) in rw (← all) c.loop-i.invariant

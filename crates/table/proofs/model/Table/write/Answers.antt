@@ -1,9 +1,19 @@
-use Rattle.table.proofs.Laws.{own_file, reads_back}
+use Rattle.std.proofs.Common.{Ok, ◌∙◌, arith}
+use Rattle.table.proofs.Places.{length_encode, put_all}
+use Rattle.table.proofs.Prefixes.{length_front}
+use Rattle.table.proofs.Laws.{reads_back}
 use Rattle.table.proofs.model.Table.write.Goals as goal
 
-pub returns : goal.returns
-returns c = record {
-  wrote = c.put_file.ensures;
-  own = own_file c.args.self.now;
-  back = reads_back c.args.self.now c.args.place.now c.put_file.new.place c.put_file.result c.put_file.ensures;
-}
+pub returns-clause-wrote : goal.returns-clause-wrote
+returns-clause-wrote c =
+    let t = c.args.self.now in
+    let at = c.end.ensures.place ∙ length_front t in
+    let long = c.file_length-size.ensures ∙ length_encode t in (
+      c.file_length-size.ensures,
+      omega arith,
+      rw (c.put-2.ensures, c.end_record.ensures, c.put_flows.ensures, c.put.ensures, c.head_record.ensures, c.dimensions.ensures, c.flows-flows.ensures.value)
+          (put_all t c.end.result c.args.place.now (omega arith) (omega arith)),
+    )
+
+pub returns-clause-back : goal.returns-clause-back
+returns-clause-back c = reads_back c.args.self.now c.args.place.now c.put-2.new.place (Ok c.file_length-size.result) c.flows-flows.ensures.few (returns-clause-wrote c)

@@ -1,5 +1,5 @@
 use Rattle.std.proofs.Common.{◌≡◌, ◌+◌, ◌-◌, ◌≤◌, ap, arith}
-use Rattle.regulator_kinds.specs.Kinds.{with_allowance}
+use Rattle.regulator.specs.Meaning.{with_allowance}
 use Rattle.regulator_kinds.specs.Counters.{stays, rises, fills, refills}
 use Rattle.regulator_kinds.proofs.two_counter.clauses.TwoCounterRegulator.pass.Goals as goal
 use Rattle.regulator_kinds.proofs.two_counter.clauses.TwoCounterRegulator.pass.Goals.{then-self-2, else-self-2}

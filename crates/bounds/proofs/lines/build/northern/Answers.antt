@@ -1,0 +1,9 @@
+use Rattle.std.proofs.Common.{◌≡◌, rules, false}
+use Rattle.bounds.specs.Bounds.{is_north}
+use Rattle.bounds.proofs.Arrays.{each_made}
+use Rattle.bounds.proofs.lines.build.northern.Goals as goal
+
+pub returns-clause-each : goal.returns-clause-each
+returns-clause-each c k h =
+    let t = c.args.table.now in
+    each_made _ _ (λ i b. b ≡ is_north t c.args.router i) (λ i b q e. search rules) c.from_fn.result 64 c.from_fn.ensures.items k false h
