@@ -15,7 +15,8 @@ pub struct Line {
     turn: Option<Turn>,
 }
 
-// What a flow has to do with the router where it turns, and which flows come there from the north.
+// What a flow has to do with the router where it turns, and which flows come there from the north,
+// a flag for each in fixed memory.
 #[derive(Clone, Copy)]
 struct Turn {
     rate: Rate,

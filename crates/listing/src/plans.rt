@@ -35,8 +35,7 @@ fn bounds_lines(text: &mut Text, plan: &Plan)
 
 // The line of flow k, which counts from 0; its number counts from 1.
 fn bounds_at(text: &mut Text, plan: &Plan, k: usize)
-    requires within { k < count plan.now.table }
-    requires small { k < 64 }
+    requires { k < count plan.now.table }
     ensures says { text.new ≡ clipped (text.old ++ bounds_at plan.now k) }
     ensures small { length (bounds_at plan.now k) ≤ 88 }
 {

@@ -3,7 +3,7 @@ use Rattle.std.proofs.Common.{◌≡◌, ℕ, ◌+◌, ◌-◌, ◌<◌, Bool, t
 use Rattle.std.specs.Fn.{Called}
 use Rattle.std.specs.Iterator.Runs.{Run, SomeRun, EachRunFrom, EveryRun, AllItemsGive, IsFirstToGive, ItemsMapTo, ProjectsRun}
 use Rattle.std.specs.Option.{MatchOption, IfSome, IsSomeAnd, option_map}
-use Rattle.std.proofs.lemmas.Option.{none-some, same_Some, cond_some}
+use Rattle.std.proofs.lemmas.Option.{none-some, same_Some}
 use denote.Param.Members.{Mut}
 use denote.Ref.{Bor}
 use Rattle.table.specs.declared.flow.Flow.{Flow}
@@ -12,7 +12,6 @@ use Rattle.table.specs.Content.{Content}
 use Rattle.bounds.specs.Sums.{count, flow}
 use Rattle.bounds.specs.Bounds.{side, frame}
 use Rattle.plan.specs.declared.refusal.FlowFault.{FlowFault}
-use Rattle.plan.specs.Order.{NoneBelow, FirstNumbered}
 use Rattle.plan.specs.Faults.{flow_fault, fault_at, Faultless, FirstFault}
 use Rattle.plan.proofs.Checked.{fits}
 
@@ -94,23 +93,6 @@ faults_from c = ends
           before = fit (e.0 - 1) (λ k d l. h.3 k d (omega (arith, back)));
         }
 
--- the number of the flow at place k, where the test holds of that place
-abbrev pub numbered : (ℕ → Bool) → ℕ → Flow → Option ℕ
-numbered test k f = cond (test k) (Some (k + 1)) None
-
 pub fails : (b : Bool) (n : ℕ) → cond b (Some n) None ≡ None → b ≡ false
 fails true n e = absurd (none-some _ (sym e))
 fails false n e = refl
-
--- the first flow that passes a test, as the search answers it
-pub numbered_from : (c : Content) (test : ℕ → Bool) (r : Option ℕ) → Stopped c.flows (numbered test) r → MatchOption r (NoneBelow (count c) test) (FirstNumbered (count c) test)
-numbered_from c test None h = λ k l. fails (test k) (k + 1) (h k blank l)
-numbered_from c test (Some y) h =
-    let here = cond_some (test h.0) (h.0 + 1) y (h.2 blank) in
-    let back : y - 1 ≡ h.0 = omega (arith, here.1) in
-    record {
-      numbered = omega (arith, here.1);
-      within = omega (arith, here.1, h.1);
-      here = ap test back ∙ here.0;
-      before = λ k l. fails (test k) (k + 1) (h.3 k blank (omega (arith, back)));
-    }

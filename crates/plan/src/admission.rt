@@ -9,7 +9,7 @@ use crate::checks::{first_crowded, first_fault};
 use crate::refusal::Refusal;
 use crate::routers::first_router;
 use bounds::{Bounds, is_saturated};
-use quantity::{Packets, Units};
+use quantity::Packets;
 use table::Table;
 
 // What can be seen before bursts are looked for: the table's own numbers, its flows, its turns and its sources.
@@ -39,11 +39,11 @@ pub(crate) fn check(table: &Table) -> Result<(), Refusal>
 }
 
 // Whether a router's queue needs more than the table's depth.
-pub(crate) fn is_shallow(table: &Table, bursts: &[Units], router: (u8, u8)) -> bool
-    ensures { result ≡ shallow table.now (units_of bursts.now) router }
+pub(crate) fn is_shallow(bounds: &Bounds, router: (u8, u8)) -> bool
+    ensures { result ≡ shallow bounds.now.table.now (units_of bounds.now.bursts.now) router }
 {
-    let depth = Packets::from(table.dimensions().depth);
-    Bounds { table, bursts }
+    let depth = Packets::from(bounds.table.dimensions().depth);
+    bounds
         .backlog(router)
         .is_none_or(|packets| depth.0 <= packets.0)
 }

@@ -1,5 +1,5 @@
 // A plan: a table with its least bursts and its routers' backlogs.
-ghost use Rattle.std.specs.Prelude.{◌≡◌, length};
+ghost use Rattle.std.specs.Prelude.{◌≡◌, ◌≤◌, length};
 ghost use Rattle.bounds.specs.Sums.{count, units_of};
 ghost use Rattle.bounds.specs.Bounds.{side, saturated, crowded, Straight, Turning, Capped, Minimal};
 ghost use Rattle.bounds.specs.Bursts.{Ends};
@@ -20,6 +20,7 @@ pub struct Plan {
     table: Table,
     bursts: [Units; 64],
     backlogs: [Packets; 64],
+    ghost few: { count table ≤ 64 },
     ghost long: { (length bursts ≡ 64) × (length backlogs ≡ 64) },
     ghost ranged: { Ranged table },
     ghost faultless: { Faultless table (count table) },

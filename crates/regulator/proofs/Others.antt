@@ -38,11 +38,12 @@ module _ {R : Type 0} (m : R → Meaning) (c : Content) where
       let t = there bank h.0 h.1 in
       let few = length-map bank m in
       let here = both (nat_lt h.0 (count c)) _ (h.0 + 1) y (h.2 t.0) in
-      let within = ltb-true h.0 (count c) here.0 in
-      let back : y - 1 ≡ h.0 = omega (arith, here.2) in
+      let within : h.0 < count c = ltb-true h.0 (count c) here.0 in
+      let number : h.0 + 1 ≡ y = here.2 in
+      let back : y - 1 ≡ h.0 = omega (arith, number) in
       record {
-        numbered = omega (arith, here.2);
-        within = omega (arith, here.2, h.1, within, few);
+        numbered = omega (arith, number);
+        within = omega (arith, number, h.1, within, few);
         here = ap (differs c (map m bank)) back ∙ (ap (λ n. not (tells n (get_or c.flows h.0 blank) (frame c))) t.1 ∙ here.1);
         before = λ k l. agrees bank k (omega (arith, l, back, h.1)) (omega (arith, l, back, within)) (λ d. h.3 k d (omega (arith, l, back)));
       }

@@ -45,3 +45,7 @@ pub record Tells (m : Meaning) (k : Bucket) : Type 0 where
   pub burst : k.burst.0 ≡ m.burst
   pub rate : k.rate.0 ≡ m.rate
   pub frame : k.frame.0 ≡ m.frame
+
+-- a bucket keeps its ranges, whatever the allowance
+pub lawful_with : (k : Bucket) (l : ℕ) → l ≤ k.burst.0 * k.frame.0 → Lawful (with_allowance l k)
+lawful_with k l within = record { burst = k.bursts; frame = k.frames; rate = k.rates; allowance = within }

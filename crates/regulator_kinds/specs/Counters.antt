@@ -10,8 +10,9 @@ covers_by q (suc t) h part = lt-ltb 0 (suc t) (omega arith) ∙ sym (le-leb q (s
 one_more : (q t : ℕ) → (t + 1) * q ≡ t * q + q
 one_more q t = ap (λ n. n * q) (add-one t) ∙ suc-mul t q
 
-pub one_less : (q t h n : ℕ) → t ≡ n + 1 → t * q + h - q ≡ n * q + h
-one_less q t h n more = rw more (omega (arith, one_more q n))
+pub one_less : (q t h : ℕ) → 0 < t → t * q + h - q ≡ (t - 1) * q + h
+one_less q zero h some = absurd (omega arith)
+one_less q (suc t) h some = let back : suc t - 1 ≡ t = omega arith in rw back (omega (arith, suc-mul t q))
 
 pub at_most : (q t h b : ℕ) → t ≤ b → h < q → (t ≡ b → h ≡ 0) → t * q + h ≤ b * q
 at_most q t h b within part brim =

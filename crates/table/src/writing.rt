@@ -85,7 +85,8 @@ impl Table {
     // How many bytes the table's file has.
     #[tactic(auto, using(crate::proofs::Places::length_encode, crate::proofs::Prefixes::length_front))]
     pub fn file_length(&self) -> usize
-        ensures { result ≡ length (encode self.now) }
+        ensures length { result ≡ length (encode self.now) }
+        ensures small { result ≤ 782 }
     {
         self.end() + 6
     }
@@ -94,14 +95,15 @@ impl Table {
     #[tactic(auto, using(crate::proofs::Places::length_encode, crate::proofs::Unique::own_file))]
     pub fn write(&self, place: &mut [u8]) -> Result<usize, Fault>
         ensures wrote { Wrote self.now place.old place.new result }
+        ensures few { length self.now.flows ≤ 64 }
         ensures own { OwnFile self.now }
         ensures back { ReadsBack self.now place.new result }
     {
+        let flows = self.flows();
         let size = self.file_length();
         if place.len() < size {
             return Err(Refusal::Short.into());
         }
-        let flows = self.flows();
         put(place, 0, &head_record(self.dimensions()));
         put_flows(place, flows);
         put(place, self.end(), &end_record(flows.len() as u16));

@@ -1,5 +1,6 @@
 // A text of at most 8192 bytes. What is put at its end and does not fit is cut off.
 // `joins` says the same as `says` to a caller that puts several pieces one after another.
+// (no `fmt::Write`: as far as its contract says, `write!` may answer Err, and these calls cannot fail)
 ghost use Rattle.std.specs.Prelude.{◌≡◌, ◌≤◌, [], ◌++◌, length, decimal};
 ghost use Rattle.text.specs.Clipped.{clipped, Joins};
 
@@ -57,7 +58,6 @@ impl Text {
     }
 
     // A label, and then a number in decimal.
-    // `write!` may answer Err, as far as its contract says, even into a writer that never fails; this call cannot fail.
     pub fn labelled(&mut self, label: &[u8], n: u64)
         ensures says { self.new ≡ clipped (self.old ++ (label.now ++ decimal n)) }
         ensures joins { Joins self.old (λ a. a ++ label.now ++ decimal n) self.new }

@@ -1,28 +1,18 @@
 -- Rings of m numbers, and routers by their number.
-use Rattle.std.proofs.Common.{◌≡◌, ℕ, ◌+◌, ◌-◌, ◌*◌, ◌/◌, ◌%◌, ◌<◌, ◌≤◌, Some, refl, ap, ◌∙◌, ⊎_elim, arith}
-use Rattle.std.proofs.lemmas.Nat.{mod-mul-add, div-mul-add, mod_below, div_below, mul-add-lt, mul-le, div-add-mod'}
+use Rattle.std.proofs.Common.{◌≡◌, ℕ, ◌+◌, ◌-◌, ◌*◌, ◌%◌, ◌<◌, ◌≤◌, Some, refl, ap, ◌∙◌, ⊎_elim, arith}
+use Rattle.std.proofs.Math.Nat.{add-mod_right, mod-eq_of_lt}
+use Rattle.std.proofs.lemmas.Nat.{mod-mul-add, div-mul-add, mul-add-lt, mul-le}
 use Rattle.std.proofs.lemmas.Bool.{cases_lt, lt-ltb}
 use Rattle.std.proofs.lemmas.Bool.Decides.{nat_tests}
-use Rattle.torus.specs.Paths.{next, ahead, router_at, index_of}
+use Rattle.torus.specs.Paths.{ahead, router_at}
 
 pub mod_once : (m n : ℕ) → n < m → (n + m) % m ≡ n
-mod_once m n h = ap (λ k. k % m) (omega arith) ∙ mod-mul-add 1 m n h
-
-pub mod_none : (m n : ℕ) → n < m → n % m ≡ n
-mod_none m n h = ap (λ k. k % m) (omega arith) ∙ mod-mul-add 0 m n h
-
--- one on, for a number of the ring
-pub next_ring : (m a : ℕ) → a < m → next m a ≡ (a + 1) % m
-next_ring m a h =
-    ⊎_elim
-    (λ (l : a + 1 < m). let e = mod_none m (a + 1) l in grind (arith, nat_tests))
-    (λ (l : m ≤ a + 1). let e : (a + 1) % m ≡ 0 = ap (λ k. k % m) (omega arith) ∙ mod_once m 0 (omega arith) in grind (arith, nat_tests))
-    (cases_lt (a + 1) m)
+mod_once m n h = add-mod_right n m ∙ mod-eq_of_lt h
 
 pub ahead_ring : (m a b : ℕ) → a < m → b < m → ahead m a b ≡ (b + m - a) % m
 ahead_ring m a b h l =
     ⊎_elim
-    (λ (k : b < a). let e = mod_none m (b + m - a) (omega arith) in grind (arith, nat_tests))
+    (λ (k : b < a). let e = mod-eq_of_lt {n = b + m - a} {m = m} (omega arith) in grind (arith, nat_tests))
     (λ (k : a ≤ b). let e : (b + m - a) % m ≡ b - a = ap (λ k. k % m) (omega arith) ∙ mod_once m (b - a) (omega arith) in grind (arith, nat_tests))
     (cases_lt b a)
 
@@ -37,12 +27,3 @@ to_router m x y h l =
     let column = mod-mul-add y m x h in
     let row = div-mul-add y m x h in
     rw (few, column, row) refl
-
--- and a number's router to it
-pub to_index : (m k : ℕ) → k < m * m → index_of m (k % m, k / m) ≡ Some k
-to_index m k h =
-    let some = side_some m k h in
-    let column = lt-ltb (k % m) m (mod_below k m some) in
-    let row = lt-ltb (k / m) m (div_below k m m some h) in
-    let whole : k / m * m + k % m ≡ k = div-add-mod' k m in
-    rw (column, row, whole) refl

@@ -1,8 +1,7 @@
--- What the answers of `turn` and `index_of` say.
-use Rattle.std.proofs.Common.{◌≡◌, ℕ, ◌+◌, ◌*◌, ◌<◌, Bool, true, false, cond, ltb, Some, None, refl, arith}
-use Rattle.std.proofs.lemmas.Bool.{and_parts, ltb-true}
+-- What the answer of `turn` says.
+use Rattle.std.proofs.Common.{◌≡◌, ℕ, Bool, true, false, cond, Some, None, refl, arith}
 use Rattle.table.specs.declared.flow.Flow.{Flow}
-use Rattle.torus.specs.Paths.{on, index_of, turns, corner, turn_of}
+use Rattle.torus.specs.Paths.{turns, corner, turn_of}
 
 none_if : {A : Type 0} (b : Bool) (r : A) → None ≡ cond b (Some r) None → b ≡ false
 none_if true r e = let z : ◌≡◌ {A = ℕ} 0 1 = cc in absurd (omega arith)
@@ -17,9 +16,3 @@ turn_none f e = none_if (turns f) (corner f) e
 
 pub turn_some : (f : Flow) (r : ℕ × ℕ) → Some r ≡ turn_of f → (turns f ≡ true) × (r ≡ corner f)
 turn_some f r e = some_if (turns f) (corner f) r e
-
-pub index_some : (m : ℕ) (r : ℕ × ℕ) (k : ℕ) → Some k ≡ index_of m r → (r.0 < m) × (r.1 < m) × (k ≡ r.1 * m + r.0)
-index_some m r k e =
-    let h = some_if (on m r) (r.1 * m + r.0) k e in
-    let both = and_parts (ltb r.0 m) (ltb r.1 m) h.0 in
-    (ltb-true _ _ both.0, ltb-true _ _ both.1, h.1)

@@ -1,12 +1,13 @@
 -- Through flows and north flows are those whose walk passes the router.
 use Rattle.std.proofs.Common.{◌≡◌, ℕ, ◌+◌, ◌-◌, ◌%◌, ◌<◌, ◌≤◌, Bool, sym, subst, ap, ◌∙◌, ⊎_elim, arith}
+use Rattle.std.proofs.Math.Nat.{mod-eq_of_lt}
 use Rattle.std.proofs.lemmas.Nat.{mod_below}
 use Rattle.std.proofs.lemmas.Bool.{cases_lt, and_parts, and_from, ltb-true, leb-true, eqb-true, lt-ltb, le-leb, eq-eqb}
 use Rattle.std.proofs.lemmas.Bool.Decides.{nat_tests}
 use Rattle.table.specs.declared.flow.Flow.{Flow}
-use Rattle.torus.specs.Paths.{ahead, through, north, hops}
-use Rattle.torus.specs.Walks.{easts, souths, WalksThrough, WalksNorth, WalksHops}
-use Rattle.torus.proofs.Rings.{mod_none, mod_once, ahead_ring}
+use Rattle.torus.specs.Paths.{ahead, through, north}
+use Rattle.torus.specs.Walks.{easts, souths, WalksThrough, WalksNorth}
+use Rattle.torus.proofs.Rings.{mod_once, ahead_ring}
 
 -- the steps ahead lead there
 leads : (m a b : ℕ) → a < m → b < m → b ≡ (a + ahead m a b) % m
@@ -15,14 +16,14 @@ leads m a b h l =
     (λ (k : b < a). let d : ahead m a b ≡ m - (a - b) = grind (arith, nat_tests) in
     sym (ap (λ n. n % m) (omega arith) ∙ mod_once m b l))
     (λ (k : a ≤ b). let d : ahead m a b ≡ b - a = grind (arith, nat_tests) in
-    sym (ap (λ n. n % m) (omega arith) ∙ mod_none m b l))
+    sym (ap (λ n. n % m) (omega arith) ∙ mod-eq_of_lt l))
     (cases_lt b a)
 
 -- and no other number of steps below a whole round does
 only : (m a b j : ℕ) → a < m → j < m → b ≡ (a + j) % m → ahead m a b ≡ j
 only m a b j h l e =
     ⊎_elim
-    (λ (k : a + j < m). let s = mod_none m (a + j) k in grind (arith, nat_tests))
+    (λ (k : a + j < m). let s = mod-eq_of_lt k in grind (arith, nat_tests))
     (λ (k : m ≤ a + j). let s : (a + j) % m ≡ a + j - m = ap (λ n. n % m) (omega arith) ∙ mod_once m (a + j - m) (omega arith) in grind (arith, nat_tests))
     (cases_lt (a + j) m)
 
@@ -63,7 +64,3 @@ through_way m f r ((xs, ys, xd, yd), x, y) =
 -- a test that answers as `through` does decides the walk
 pub walks_through : (m : ℕ) (f : Flow) (r : ℕ × ℕ) (b : Bool) → b ≡ through m f r → WalksThrough m f r b
 walks_through m f r b e = subst (WalksThrough m f r) (sym e) (through_way m f r)
-
-pub walks_hops : (m : ℕ) (f : Flow) → WalksHops m f (hops m f)
-walks_hops m f (xs, ys, xd, yd) =
-    omega (arith, ahead_ring m f.source.0 f.destination.0 xs xd, ahead_ring m f.source.1 f.destination.1 ys yd)

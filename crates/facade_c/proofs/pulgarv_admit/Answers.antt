@@ -1,11 +1,8 @@
 use Rattle.std.proofs.Common.{sym, ◌∙◌, subst, w64, SFits, rules}
 use Rattle.std.proofs.lemmas.Int.{to_z-of_z}
 use Rattle.facade_c.specs.Told.{Told}
-use Rattle.facade_c.proofs.Codes.{small, told}
+use Rattle.facade_c.proofs.Codes.{told}
 use Rattle.facade_c.proofs.pulgarv_admit.Goals as goal
-
-pub code-requires : goal.code-requires
-code-requires c = small _ _ _ _ c.list.ensures
 
 pub returns : goal.returns
 returns c =

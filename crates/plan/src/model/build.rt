@@ -14,7 +14,7 @@ use crate::backlogs::backlogs;
 use crate::fault::PlanFault;
 use crate::refusal::Refusal;
 use crate::routers::first_router;
-use bounds::least_bursts;
+use bounds::{Bounds, least_bursts};
 use quantity::{Depth, Frame, Units};
 use table::{Dimensions, Fault, Table};
 
@@ -25,10 +25,15 @@ fn complete(table: &Table, bursts: [Units; 64]) -> Plan
     requires deep { Nowhere (side table.now) (shallow table.now (units_of bursts)) }
     ensures { result.table ≡ table.now }
 {
+    // (asked for its clause `few`, that a table has at most 64 flows)
+    let _flows = table.flows();
     Plan {
         table: *table,
         bursts,
-        backlogs: backlogs(table, &bursts),
+        backlogs: backlogs(&Bounds {
+            table,
+            bursts: &bursts,
+        }),
     }
 }
 
@@ -38,7 +43,11 @@ fn plan_of(table: &Table) -> Result<Plan, Refusal>
 {
     check(table)?;
     let bursts = least_bursts(table).map_err(|_| Refusal::Unbounded)?;
-    if let Some(router) = first_router(table, |router| is_shallow(table, &bursts, router)) {
+    let bounds = Bounds {
+        table,
+        bursts: &bursts,
+    };
+    if let Some(router) = first_router(table, |router| is_shallow(&bounds, router)) {
         return Err(Refusal::Shallow(router));
     }
     Ok(complete(table, bursts))

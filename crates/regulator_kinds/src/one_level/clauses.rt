@@ -1,5 +1,6 @@
 // What the one-level kind does.
 ghost use Rattle.std.specs.Prelude.{◌≡◌};
+ghost use Rattle.regulator.specs.Meaning.{lawful_with};
 ghost use Rattle.regulator_kinds.specs.Kinds.{one_level};
 
 use super::OneLevel;
@@ -20,13 +21,7 @@ impl OneLevel {
 impl Regulator for OneLevel {
     ghost meaning = { one_level };
 
-    ghost lawful = { λ x.
-        record {
-          burst = x.bucket.bursts;
-          frame = x.bucket.frames;
-          rate = x.bucket.rates;
-          allowance = x.within;
-        } };
+    ghost lawful = { λ x. lawful_with x.bucket x.level.0 x.within };
 
     fn fresh(plan: &Plan, number: usize) -> Result<OneLevel, Fault> {
         let bucket = Bucket::of_flow(plan, number)?;

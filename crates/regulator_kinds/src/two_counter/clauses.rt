@@ -1,5 +1,6 @@
 // What the two-counter kind does.
 ghost use Rattle.std.specs.Prelude.{◌≡◌, ◌/◌, ◌%◌};
+ghost use Rattle.regulator.specs.Meaning.{lawful_with};
 ghost use Rattle.regulator_kinds.specs.Kinds.{two_counter};
 ghost use Rattle.regulator_kinds.specs.Counters.{at_most};
 
@@ -28,13 +29,7 @@ impl TwoCounter {
 impl Regulator for TwoCounter {
     ghost meaning = { two_counter };
 
-    ghost lawful = { λ x.
-        record {
-          burst = x.bucket.bursts;
-          frame = x.bucket.frames;
-          rate = x.bucket.rates;
-          allowance = at_most _ _ _ _ x.within x.part x.brim;
-        } };
+    ghost lawful = { λ x. lawful_with x.bucket _ (at_most _ _ _ _ x.within x.part x.brim) };
 
     fn fresh(plan: &Plan, number: usize) -> Result<TwoCounter, Fault> {
         let bucket = Bucket::of_flow(plan, number)?;

@@ -1,5 +1,5 @@
 use Rattle.std.proofs.Common.{◌≡◌, ℕ, ◌+◌, List, [], ◌∷◌, ◌++◌, length, get_or, take, sym, ap, ◌∙◌, append_assoc, append-nil, arith, below_more}
-use Rattle.std.proofs.lemmas.List.{take_more, take_all, length-take-le}
+use Rattle.std.proofs.lemmas.List.{take_more, length-take-le}
 use Rattle.table.specs.declared.flow.Flow.{Flow}
 use Rattle.table.specs.Blank.{blank}
 use Rattle.text.proofs.Clips.{joins_one, joins_more}
@@ -20,8 +20,3 @@ loop-i-preserved c =
       rw more (joins_more _ _ _ _ _ c.loop-i.invariant.0 (joins_one _ _ _ c.flow_line.ensures.says)),
       below_more _ i c.loop-i.invariant.1 c.flow_line.ensures.small,
     )
-
-pub returns : goal.returns
-returns c =
-    let all = take_all c.loop-i.i c.args.flows.now (omega arith) in
-    record { says = rw all at c.loop-i.invariant.0; small = λ k h. c.loop-i.invariant.1 k (omega arith) }

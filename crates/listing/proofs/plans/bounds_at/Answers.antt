@@ -11,9 +11,9 @@ returns c =
     let p = c.args.plan.now in
     let k = c.args.k in
     let b = c.unwrap-bounds.result in
-    let told = flow_told_lem p k c.flow.result b c.requires.within c.flow.ensures.value c.unwrap-bounds.ensures in
+    let told = flow_told_lem p k c.flow.result b c.requires c.flow.ensures.value c.unwrap-bounds.ensures in
     let small = subst FlowSmall c.unwrap-bounds.ensures c.flow.ensures.small in
     record {
       says = c.bounds_line.ensures ∙ ap (λ e. clipped (c.args.text.now ++ bounds_line (k + 1) e)) told;
-      small = subst (λ e. length (bounds_line (k + 1) e) ≤ 88) told (bounds_short (k + 1) b (omega (arith, c.requires.small)) small);
+      small = subst (λ e. length (bounds_line (k + 1) e) ≤ 88) told (bounds_short (k + 1) b (omega (arith, c.requires, c.args.plan.now.few)) small);
     }

@@ -1,4 +1,4 @@
-use Rattle.std.proofs.Common.{◌≤◌, ◌++◌, length, ap, ◌∙◌, subst}
+use Rattle.std.proofs.Common.{◌++◌, length, ap, ◌∙◌, subst}
 use Rattle.bounds.specs.Sums.{count}
 use Rattle.text.specs.Clipped.{clipped}
 use Rattle.listing.specs.Lines.{torus_line}
@@ -18,4 +18,4 @@ returns c =
     c.bounds_lines.ensures.says
     c.queue_lines.ensures.says
     (c.admitted_line.ensures ∙ ap (λ n. clipped (c.queue_lines.new.text ++ admitted_line n)) number)
-    (plan_short p (subst DimensionsSmall dimensions c.torus_line.ensures.small) (subst (λ u. count u ≤ 64) c.table-2.ensures c.flows.ensures.few) c.bounds_lines.ensures.small c.queue_lines.ensures.small)
+    (plan_short p (subst DimensionsSmall dimensions c.torus_line.ensures.small) c.args.plan.now.few c.bounds_lines.ensures.small c.queue_lines.ensures.small)

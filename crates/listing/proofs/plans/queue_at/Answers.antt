@@ -1,12 +1,12 @@
-use Rattle.std.proofs.Common.{◌≡◌, ◌≤◌, true, false, ◌++◌, length, sym, ap, ◌∙◌, subst, arith}
+use Rattle.std.proofs.Common.{◌≡◌, ◌≤◌, true, ◌++◌, length, sym, ap, ◌∙◌, subst, arith}
 use Rattle.bounds.specs.Bounds.{is_turn}
 use Rattle.plan.specs.Told.{RouterSmall}
 use Rattle.plan.proofs.Filled.{side_le}
 use Rattle.text.specs.Clipped.{Joins}
-use Rattle.text.proofs.Clips.{joins_one, joins_none}
+use Rattle.text.proofs.Clips.{joins_one}
 use Rattle.listing.specs.Plans.{queue_line}
 use Rattle.listing.proofs.Lengths.{queue_short}
-use Rattle.listing.proofs.There.{router_told_lem, a_line, no_line}
+use Rattle.listing.proofs.There.{router_told_lem, a_line}
 use Rattle.listing.proofs.plans.queue_at.Goals as goal
 
 pub returns-then-bounds : goal.returns-then-bounds
@@ -22,17 +22,4 @@ returns-then-bounds c =
     record {
       says = subst (λ l. Joins c.args.text.now (λ a. a ++ l) c.queue_line.new.text) line (joins_one _ _ _ c.queue_line.ensures);
       small = subst (λ l. length l ≤ 33) line (queue_short r b (omega (arith, c.requires.column, most)) (omega (arith, c.requires.row, most)) small);
-    }
-
-pub returns-else-bounds : goal.returns-else-bounds
-returns-else-bounds c =
-    let p = c.args.plan.now in
-    let r = c.args.router in
-    let b = c.unwrap-bounds.result in
-    let told = router_told_lem p r c.router.result b c.requires.column c.requires.row c.router.ensures.value c.unwrap-bounds.ensures in
-    let straight : is_turn p.table r ≡ false = sym (ap (λ e. e.turns) told) ∙ c.if-bounds.false in
-    let line = sym (no_line p r straight) in
-    record {
-      says = subst (λ l. Joins c.args.text.now (λ a. a ++ l) c.args.text.now) line (joins_none _);
-      small = subst (λ l. length l ≤ 33) line (omega arith);
     }

@@ -2,11 +2,8 @@ use Rattle.std.proofs.Common.{◌≡◌, ap, subst, arith}
 use Rattle.bounds.specs.Bounds.{side}
 use Rattle.plan.proofs.Filled.{side_le}
 use Rattle.listing.specs.Plans.{queue_at}
-use Rattle.listing.proofs.Pieces.{Lined, lined_none, lined_more}
+use Rattle.listing.proofs.Pieces.{Lined, lined_more}
 use Rattle.listing.proofs.plans.queue_row.Goals as goal
-
-pub loop-x-init : goal.loop-x-init
-loop-x-init c = lined_none _ _ _
 
 pub loop-x-preserved : goal.loop-x-preserved
 loop-x-preserved c = lined_more _ _ _ _ _ _ c.loop-x.invariant c.queue_at.ensures.says c.queue_at.ensures.small

@@ -5,9 +5,6 @@ use Rattle.plan.specs.Plans.{Whole, Roomy, Sound}
 use Rattle.plan.proofs.admission.check.Goals as goal
 use Rattle.plan.proofs.admission.check.Goals.{After-first_router, In_default-first_router}
 
-pub returns-then-not-contains-3 : goal.returns-then-not-contains-3
-returns-then-not-contains-3 c = (search rules, search rules, search rules)
-
 -- the numbers and the flows keep their ranges once the turns are looked at
 whole : (c : After-first_router) → Whole c.args.table.now
 whole c =

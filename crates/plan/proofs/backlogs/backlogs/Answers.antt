@@ -8,5 +8,6 @@ use Rattle.plan.proofs.backlogs.backlogs.Goals as goal
 
 pub returns-clause-each : goal.returns-clause-each
 returns-clause-each c k h =
-    let t = c.args.table.now in
-    each_made _ _ (λ i p. p.0 ≡ stored t (units_of c.args.bursts.now) (router_at (side t) i)) (λ i y q e. search rules) _ 64 c.from_fn.ensures.items k _ h
+    let b = c.args.bounds.now in
+    let t = b.table.now in
+    each_made _ _ (λ i p. p.0 ≡ stored t (units_of b.bursts.now) (router_at (side t) i)) (λ i y q e. search rules) _ 64 c.from_fn.ensures.items k _ h

@@ -1,5 +1,5 @@
-use Rattle.std.proofs.Common.{◌≤◌, map, length, set, sym, refl, ap, ◌∙◌, arith}
-use Rattle.std.proofs.lemmas.List.{set-get_or, set_past, get_or_past, length-map}
+use Rattle.std.proofs.Common.{set, ap, ◌∙◌}
+use Rattle.std.proofs.lemmas.List.{set-get_or}
 use Rattle.regulator.specs.Meaning.{covers, taken}
 use Rattle.regulator.proofs.Rows.{at_by, write_by, nth_set_other}
 use Rattle.regulator.proofs.bank.take_at.Goals as goal
@@ -13,16 +13,4 @@ returns-then-place-bank g c =
       after = write_by m taken _ _ _ _ _ within c.take.ensures.after;
       others = λ k other. nth_set_other _ _ k _ other;
       stays = λ no. ap (set c.args.bank.now c.args.place) (c.take.ensures.stays no) ∙ set-get_or _ _ _;
-    }
-
-pub returns : goal.returns
-returns g c =
-    let m = g.R.Regulator.meaning in
-    let row = map m c.args.bank.now in
-    let past : length row ≤ c.args.place = omega (arith, length-map c.args.bank.now m) in
-    record {
-      answer = sym (ap covers (get_or_past row c.args.place _ past));
-      after = sym (set_past row c.args.place _ past);
-      others = λ k other. refl;
-      stays = λ no. refl;
     }

@@ -4,20 +4,12 @@ use Rattle.table.specs.Content.{pushed}
 use Rattle.table.specs.declared.refusal.Refusal.TheVariants.{Excess}
 use Rattle.table.specs.Reading.{Broken, Whole}
 use Rattle.table.specs.Refusals.{fault_of}
-use Rattle.table.specs.Inspecting.{Ended, dimensions_of, flow_of}
+use Rattle.table.specs.Inspecting.{Ended, flow_of}
 use Rattle.table.specs.Reading.Refused.{at_head}
 use Rattle.table.specs.Reading.Wrong.{broken}
-use Rattle.table.proofs.Prefixes.{Begun, begun_none, begun_wrong, begun_full, begun_more, begun_end, at_byte, at_start, start_of}
+use Rattle.table.proofs.Prefixes.{Begun, begun_wrong, begun_full, begun_more, begun_end, at_byte, at_start, start_of}
 use Rattle.table.proofs.reading.scan.Goals as goal
 use Rattle.table.proofs.reading.scan.Goals.{In_ok-inspect-2}
-
-pub loop-table-init : goal.loop-table-init
-loop-table-init c =
-    let bs = c.args.bytes.now in
-    let k = c.in_ok-inspect.field-0 in
-    let w = at_byte (λ at q. Whole at q k) bs c.new-head.ensures.at c.new-head.ensures.bytes c.in_ok-inspect.ensures in
-    let d = c.new-table.ensures ∙ ap (λ d. record { dimensions = d; flows = _ }) (c.dimensions.ensures ∙ ap dimensions_of c.new-head.ensures.bytes) in
-    subst (Begun bs) (sym d) (begun_none bs k (λ i. (c.type_inv.bytes i).fits) w)
 
 pub returns-in_err-inspect : goal.returns-in_err-inspect
 returns-in_err-inspect c =

@@ -13,6 +13,7 @@ invariant_of-result c =
     let ps = c.backlogs.result in
     let ensures = c.backlogs.ensures in
     record {
+      few = c.flows-flows.ensures.few;
       long = (c.requires.least.0, ensures.long);
       ranged = whole.ranged;
       faultless = whole.flows;

@@ -8,8 +8,8 @@ pub returns-clause-wrote : goal.returns-clause-wrote
 returns-clause-wrote c =
     let t = c.args.self.now in
     let at = c.end.ensures.place ∙ length_front t in
-    let long = c.file_length-size.ensures ∙ length_encode t in (
-      c.file_length-size.ensures,
+    let long = c.file_length-size.ensures.length ∙ length_encode t in (
+      c.file_length-size.ensures.length,
       omega arith,
       rw (c.put-2.ensures, c.end_record.ensures, c.put_flows.ensures, c.put.ensures, c.head_record.ensures, c.dimensions.ensures, c.flows-flows.ensures.value)
           (put_all t c.end.result c.args.place.now (omega arith) (omega arith)),
