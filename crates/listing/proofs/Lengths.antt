@@ -10,7 +10,6 @@ use Rattle.table.specs.declared.flow.Flow.{Flow}
 use Rattle.table.specs.Blank.{blank}
 use Rattle.table.specs.Content.{Content}
 use Rattle.bounds.specs.Sums.{count}
-use Rattle.plan.specs.declared.model.Plan.{Plan}
 use Rattle.plan.specs.declared.told.FlowBounds.{FlowBounds}
 use Rattle.plan.specs.declared.told.RouterBounds.{RouterBounds}
 use Rattle.plan.specs.Told as told
@@ -99,11 +98,11 @@ admitted_short : (n : ℕ) → n < 2 ^ 16 → length (admitted_line n) ≤ 15
 admitted_short n h = simp length-append (omega (arith, word n h))
 
 -- 64 lines of flows and 64 lines of routers have room
-pub plan_short : (p : Plan) → DimensionsSmall p.table.dimensions → count p.table ≤ 64 → length (bounds_lines p) ≤ 5632 → length (queue_lines p) ≤ 2112 → length (plan_text p) ≤ 8192
-plan_short p d few flows routers =
-    let first = torus_short p.table.dimensions d in
-    let last = admitted_short (count p.table) (omega arith) in
-    let one = torus_line p.table.dimensions in
-    let two = one ++ bounds_lines p in
-    let three = two ++ queue_lines p in
-    omega (arith, length-append three (admitted_line (count p.table)), length-append two (queue_lines p), length-append one (bounds_lines p))
+pub plan_short : (c : Content) (x : ℕ → ℕ) → DimensionsSmall c.dimensions → count c ≤ 64 → length (bounds_lines c x) ≤ 5632 → length (queue_lines c x) ≤ 2112 → length (plan_text c x) ≤ 8192
+plan_short c x d few flows routers =
+    let first = torus_short c.dimensions d in
+    let last = admitted_short (count c) (omega arith) in
+    let one = torus_line c.dimensions in
+    let two = one ++ bounds_lines c x in
+    let three = two ++ queue_lines c x in
+    omega (arith, length-append three (admitted_line (count c)), length-append two (queue_lines c x), length-append one (bounds_lines c x))

@@ -1,8 +1,8 @@
--- The lines about a plan.
+-- The lines about a plan; x is its choice of bursts, in units, by flow.
 use Rattle.std.specs.Prelude.{ℕ, zero, suc, ◌+◌, cond, List, [], ◌++◌, codes, decimal}
+use Rattle.table.specs.Content.{Content}
 use Rattle.bounds.specs.Sums.{count}
 use Rattle.bounds.specs.Bounds.{side, is_turn}
-use Rattle.plan.specs.declared.model.Plan.{Plan}
 use Rattle.plan.specs.declared.told.FlowBounds.{FlowBounds}
 use Rattle.plan.specs.declared.told.RouterBounds.{RouterBounds}
 use Rattle.plan.specs.Told.{flow_bounds, router_bounds}
@@ -30,24 +30,24 @@ abbrev pub admitted_line : ℕ → List ℕ
 admitted_line n = codes "admitted " ++ decimal n ++ codes "\n"
 
 -- flow k counts from 0 here, and from 1 in its line
-abbrev pub bounds_at : Plan → ℕ → List ℕ
-bounds_at p k = bounds_line (k + 1) (flow_bounds p k)
+abbrev pub bounds_at : Content → (ℕ → ℕ) → ℕ → List ℕ
+bounds_at c x k = bounds_line (k + 1) (flow_bounds c x k)
 
 -- a line for each flow
-abbrev pub bounds_lines : Plan → List ℕ
-bounds_lines p = lines_to (count p.table) (bounds_at p)
+abbrev pub bounds_lines : Content → (ℕ → ℕ) → List ℕ
+bounds_lines c x = lines_to (count c) (bounds_at c x)
 
 -- no line where no flow turns
-abbrev pub queue_at : Plan → ℕ × ℕ → List ℕ
-queue_at p r = cond (is_turn p.table r) (queue_line r (router_bounds p r)) []
+abbrev pub queue_at : Content → (ℕ → ℕ) → ℕ × ℕ → List ℕ
+queue_at c x r = cond (is_turn c r) (queue_line r (router_bounds c x r)) []
 
 -- the routers of one row, column by column
-abbrev pub queue_row : Plan → ℕ → List ℕ
-queue_row p row = lines_to (side p.table) (λ column. queue_at p (column, row))
+abbrev pub queue_row : Content → (ℕ → ℕ) → ℕ → List ℕ
+queue_row c x row = lines_to (side c) (λ column. queue_at c x (column, row))
 
 -- the routers of all rows
-abbrev pub queue_lines : Plan → List ℕ
-queue_lines p = lines_to (side p.table) (queue_row p)
+abbrev pub queue_lines : Content → (ℕ → ℕ) → List ℕ
+queue_lines c x = lines_to (side c) (queue_row c x)
 
-abbrev pub plan_text : Plan → List ℕ
-plan_text p = torus_line p.table.dimensions ++ bounds_lines p ++ queue_lines p ++ admitted_line (count p.table)
+abbrev pub plan_text : Content → (ℕ → ℕ) → List ℕ
+plan_text c x = torus_line c.dimensions ++ bounds_lines c x ++ queue_lines c x ++ admitted_line (count c)

@@ -3,7 +3,7 @@
 // `small` says how long a piece is, so that a whole text is known to have room.
 ghost use Rattle.std.specs.Prelude.{◌≡◌, ◌<◌, ◌≤◌, ◌++◌, length, decimal};
 ghost use Rattle.text.specs.Clipped.{clipped, Joins};
-ghost use Rattle.bounds.specs.Sums.{count};
+ghost use Rattle.bounds.specs.Sums.{count, units_of};
 ghost use Rattle.bounds.specs.Bounds.{side};
 ghost use Rattle.listing.specs.Plans.{bounds_line, bounds_at, bounds_lines, queue_line, queue_at, queue_row, queue_lines, admitted_line, plan_text};
 
@@ -13,7 +13,7 @@ use text::Text;
 
 // A line about the torus, one for each flow and for each router where a flow turns, and how many flows are admitted.
 pub fn plan_text(plan: &Plan) -> Text
-    ensures { result ≡ plan_text plan.now }
+    ensures { result ≡ plan_text plan.now.table (units_of plan.now.bursts) }
 {
     let mut text = Text::new();
     torus_line(&mut text, plan.table().dimensions());
@@ -24,8 +24,8 @@ pub fn plan_text(plan: &Plan) -> Text
 }
 
 fn bounds_lines(text: &mut Text, plan: &Plan)
-    ensures says { Joins text.old (λ a. a ++ bounds_lines plan.now) text.new }
-    ensures small { length (bounds_lines plan.now) ≤ 5632 }
+    ensures says { Joins text.old (λ a. a ++ bounds_lines plan.now.table (units_of plan.now.bursts)) text.new }
+    ensures small { length (bounds_lines plan.now.table (units_of plan.now.bursts)) ≤ 5632 }
 {
     // (by number: it is by its number that a plan tells a flow's bounds)
     for k in 0..plan.table().flows().len() {
@@ -36,8 +36,8 @@ fn bounds_lines(text: &mut Text, plan: &Plan)
 // The line of flow k, which counts from 0; its number counts from 1.
 fn bounds_at(text: &mut Text, plan: &Plan, k: usize)
     requires { k < count plan.now.table }
-    ensures says { text.new ≡ clipped (text.old ++ bounds_at plan.now k) }
-    ensures small { length (bounds_at plan.now k) ≤ 88 }
+    ensures says { text.new ≡ clipped (text.old ++ bounds_at plan.now.table (units_of plan.now.bursts) k) }
+    ensures small { length (bounds_at plan.now.table (units_of plan.now.bursts) k) ≤ 88 }
 {
     let bounds = plan.flow(k + 1).unwrap();
     bounds_line(text, k + 1, bounds);
@@ -69,8 +69,8 @@ fn two_words(text: &mut Text, first: &[u8], m: u64, second: &[u8], n: u64)
 
 // Row by row.
 fn queue_lines(text: &mut Text, plan: &Plan)
-    ensures says { Joins text.old (λ a. a ++ queue_lines plan.now) text.new }
-    ensures small { length (queue_lines plan.now) ≤ 2112 }
+    ensures says { Joins text.old (λ a. a ++ queue_lines plan.now.table (units_of plan.now.bursts)) text.new }
+    ensures small { length (queue_lines plan.now.table (units_of plan.now.bursts)) ≤ 2112 }
 {
     for y in 0..plan.table().dimensions().side {
         queue_row(text, plan, y);
@@ -79,8 +79,8 @@ fn queue_lines(text: &mut Text, plan: &Plan)
 
 fn queue_row(text: &mut Text, plan: &Plan, y: u8)
     requires { y < side plan.now.table }
-    ensures says { Joins text.old (λ a. a ++ queue_row plan.now y) text.new }
-    ensures small { length (queue_row plan.now y) ≤ 264 }
+    ensures says { Joins text.old (λ a. a ++ queue_row plan.now.table (units_of plan.now.bursts) y) text.new }
+    ensures small { length (queue_row plan.now.table (units_of plan.now.bursts) y) ≤ 264 }
 {
     for x in 0..plan.table().dimensions().side {
         queue_at(text, plan, (x, y));
@@ -91,8 +91,8 @@ fn queue_row(text: &mut Text, plan: &Plan, y: u8)
 fn queue_at(text: &mut Text, plan: &Plan, router: (u8, u8))
     requires column { router.0 < side plan.now.table }
     requires row { router.1 < side plan.now.table }
-    ensures says { Joins text.old (λ a. a ++ queue_at plan.now router) text.new }
-    ensures small { length (queue_at plan.now router) ≤ 33 }
+    ensures says { Joins text.old (λ a. a ++ queue_at plan.now.table (units_of plan.now.bursts) router) text.new }
+    ensures small { length (queue_at plan.now.table (units_of plan.now.bursts) router) ≤ 33 }
 {
     let bounds = plan.router(router).unwrap();
     if bounds.turns {

@@ -1,7 +1,7 @@
 -- The search for a regulator that tells other numbers than its flow.
-use Rattle.std.proofs.Common.{◌≡◌, ℕ, ◌+◌, ◌-◌, ◌<◌, Bool, true, false, cond, not, nat_lt, List, [], ◌∷◌, length, get_or, map, Some, None, Option, refl, sym, ap, ◌∙◌, arith}
-use Rattle.std.proofs.lemmas.Bool.{lt-ltb, ltb-true}
-use Rattle.std.proofs.lemmas.List.{length-map}
+use Rattle.std.proofs.Common.{◌≡◌, ℕ, ◌+◌, ◌-◌, ◌<◌, Bool, true, false, cond, not, nat_lt, List, [], ◌∷◌, length, get_or, map, min, take, Some, None, Option, refl, sym, ap, ◌∙◌, arith}
+use Rattle.std.proofs.lemmas.Bool.{lt-ltb}
+use Rattle.std.proofs.lemmas.List.{length-map, length-take-le, get_or-take}
 use Rattle.std.proofs.lemmas.Option.{none-some, cond_some}
 use Rattle.table.specs.Blank.{blank}
 use Rattle.table.specs.Content.{Content}
@@ -32,18 +32,32 @@ module _ {R : Type 0} (m : R → Meaning) (c : Content) where
       let t = there bank k h in
       fails (differs c (map m bank) k) (k + 1) (rw (t.1) (rw (lt-ltb k (count c) l) at none t.0))
 
-  pub others_from : (bank : List R) (r : Option ℕ) → Stopped bank (other m c) r → FirstOther c (map m bank) r
-  others_from bank None h = λ k l. agrees bank k (omega (arith, l, length-map bank m)) (omega (arith, l)) (λ d. h k d (omega (arith, l, length-map bank m)))
-  others_from bank (Some y) h =
-      let t = there bank h.0 h.1 in
-      let few = length-map bank m in
-      let here = both (nat_lt h.0 (count c)) _ (h.0 + 1) y (h.2 t.0) in
-      let within : h.0 < count c = ltb-true h.0 (count c) here.0 in
-      let number : h.0 + 1 ≡ y = here.2 in
-      let back : y - 1 ≡ h.0 = omega (arith, number) in
-      record {
-        numbered = omega (arith, number);
-        within = omega (arith, number, h.1, within, few);
-        here = ap (differs c (map m bank)) back ∙ (ap (λ n. not (tells n (get_or c.flows h.0 blank) (frame c))) t.1 ∙ here.1);
-        before = λ k l. agrees bank k (omega (arith, l, back, h.1)) (omega (arith, l, back, within)) (λ d. h.3 k d (omega (arith, l, back)));
-      }
+  -- the search went through the regulators that have a flow
+  pub others_from : (bank : List R) (n : ℕ) (r : Option ℕ) → n ≡ min (length bank) (count c) → Stopped (take n bank) (other m c) r → FirstOther c (map m bank) r
+  others_from bank n r many = ends r
+    where
+      few : length (map m bank) ≡ length bank
+      few = length-map bank m
+
+      long : length (take n bank) ≡ n
+      long = length-take-le n bank (omega (arith, many))
+
+      front : (k : ℕ) → k < n → ((d : R) → other m c k (get_or (take n bank) k d) ≡ None) → differs c (map m bank) k ≡ false
+      front k l none =
+          agrees bank k (omega (arith, l, many)) (omega (arith, l, many)) (λ d. ap (other m c k) (sym (get_or-take n bank k d l)) ∙ none d)
+
+      ends : (r : Option ℕ) → Stopped (take n bank) (other m c) r → FirstOther c (map m bank) r
+      ends None h = λ k l. front k (omega (arith, l, many, few)) (λ d. h k d (omega (arith, l, many, few, long)))
+      ends (Some y) h =
+          let inside : h.0 < n = omega (arith, h.1, long) in
+          let t = there bank h.0 (omega (arith, inside, many)) in
+          let said : other m c h.0 (get_or bank h.0 t.0) ≡ Some y = ap (other m c h.0) (sym (get_or-take n bank h.0 t.0 inside)) ∙ h.2 t.0 in
+          let here = both (nat_lt h.0 (count c)) _ (h.0 + 1) y said in
+          let number : h.0 + 1 ≡ y = here.2 in
+          let back : y - 1 ≡ h.0 = omega (arith, number) in
+          record {
+            numbered = omega (arith, number);
+            within = omega (arith, number, inside, many, few);
+            here = ap (differs c (map m bank)) back ∙ (ap (λ n. not (tells n (get_or c.flows h.0 blank) (frame c))) t.1 ∙ here.1);
+            before = λ k l. front k (omega (arith, l, back, inside)) (λ d. h.3 k d (omega (arith, l, back)));
+          }

@@ -54,6 +54,8 @@ pub fn first_other<R: Regulator>(bank: &[R], plan: &Plan) -> Option<usize>
 {
     let frame = plan.table().dimensions().frame;
     let flows = plan.table().flows();
+    // (the regulators behind the last flow are not looked at: a search would go through all of them)
+    let bank = &bank[..bank.len().min(flows.len())];
     bank.iter().enumerate().find_map(|(k, regulator)| {
         let flow = flows.get(k)?;
         (!agrees(regulator, flow, frame)).then_some(k + 1)

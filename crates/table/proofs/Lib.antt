@@ -1,5 +1,6 @@
 mod Splits
 mod Prefixes
+mod Same
 mod Equal
 mod Unique
 mod Places

@@ -2,7 +2,8 @@
 
 #![tactic(auto)]
 
-ghost use Rattle.std.specs.Prelude.{◌≡◌, Decides};
+ghost use Rattle.std.specs.Prelude.{◌≡◌, Decides, not};
+ghost use Rattle.table.specs.Equal.{same_flow};
 
 #[cfg(test)]
 mod tests {
@@ -33,11 +34,18 @@ mod tests {
         Ok(table)
     }
 
-    // The derived `==` of flows is true exactly of equal ones.
+    // The derived `==` of flows compares part by part, and is true exactly of equal ones.
     fn same(f: &Flow, g: &Flow) -> bool
-        ensures { Decides result (f.now ≡ g.now) }
+        ensures parts { result ≡ same_flow f.now g.now }
+        ensures same { Decides result (f.now ≡ g.now) }
     {
         f == g
+    }
+
+    fn differ(f: &Flow, g: &Flow) -> bool
+        ensures { result ≡ not (same_flow f.now g.now) }
+    {
+        f != g
     }
 
     #[test]
@@ -53,6 +61,8 @@ mod tests {
         assert!(rt; same(&FLOW, &FLOW));
         assert!(rt; !same(&FLOW, &burst));
         assert!(rt; !same(&FLOW, &rate));
+        assert!(rt; differ(&FLOW, &burst));
+        assert!(rt; !differ(&FLOW, &FLOW));
     }
 
     #[test]

@@ -58,6 +58,8 @@ impl Text {
     }
 
     // A label, and then a number in decimal.
+    // (inlined, so that a label that is a constant is copied as one, and C programs need no `memmove`)
+    #[inline(always)]
     pub fn labelled(&mut self, label: &[u8], n: u64)
         ensures says { self.new ≡ clipped (self.old ++ (label.now ++ decimal n)) }
         ensures joins { Joins self.old (λ a. a ++ label.now ++ decimal n) self.new }

@@ -1,5 +1,7 @@
 // Lines from a table.
-ghost use Rattle.std.specs.Prelude.{◌≡◌, ℕ, ◌+◌, ◌*◌, ◌<◌, ◌≤◌, false, length, slice_index_or};
+ghost use Rattle.std.specs.Prelude.{◌≡◌, ℕ, ◌+◌, ◌*◌, ◌<◌, false, length, slice_index_or};
+ghost use Rattle.table.specs.Blank.{blank};
+ghost use Rattle.torus.specs.Paths as path;
 ghost use Rattle.bounds.specs.Sums.{up, count, over};
 ghost use Rattle.bounds.specs.Bounds.{is_north, is_beside, slack as slack_of, north_bursts, room as room_of};
 ghost use Rattle.bounds.specs.Lines.{asked, line_of, line_at, least_burst};
@@ -7,23 +9,31 @@ ghost use Rattle.bounds.specs.Lines.{asked, line_of, line_at, least_burst};
 use super::{Line, Lines, Turn};
 use crate::sums::slack;
 use crate::turns::{flow_at, other_slacks, room};
-use quantity::Rate;
+use quantity::{Rate, Units};
 use std::array;
-use table::Table;
+use table::{Flow, Table};
 use torus::{Torus, turn};
+
+// Whether there is a flow `k` and it comes from the north.
+fn is_northern(flows: &[Flow], torus: Torus, k: usize, router: (u8, u8)) -> bool
+    ensures { k < length flows.now → result ≡ path.north torus.side (slice_index_or flows.now k blank) router }
+{
+    flows.get(k).is_some_and(|flow| torus.north(flow, router))
+}
 
 // Which flows come from the north.
 fn northern(table: &Table, router: (u8, u8)) -> [bool; 64]
     ensures long { length result ≡ 64 }
-    ensures each { (k : ℕ) → k < 64 → slice_index_or result k false ≡ is_north table.now router k }
+    ensures each { (k : ℕ) → k < count table.now → slice_index_or result k false ≡ is_north table.now router k }
 {
     let torus = Torus::from(table.dimensions());
-    array::from_fn(|k| torus.north(&flow_at(table, k), router))
+    let flows = table.flows();
+    array::from_fn(|k| is_northern(flows, torus, k, router))
 }
 
 // The turn of flow `k`, which brings `rate` in a step, at the router.
 fn turn_at(table: &Table, k: usize, rate: Rate, router: (u8, u8)) -> Turn
-    ensures { count table.now ≤ 64 → (x : ℕ → ℕ) → asked (count table.now) x result ≡ up (rate.0 * (north_bursts table.now x router + over table.now (is_beside table.now k router) (slack_of table.now))) (room_of table.now router) }
+    ensures { (x : ℕ → ℕ) → asked (count table.now) x result ≡ up (rate.0 * (north_bursts table.now x router + over table.now (is_beside table.now k router) (slack_of table.now))) (room_of table.now router) }
 {
     Turn {
         rate,
@@ -33,9 +43,15 @@ fn turn_at(table: &Table, k: usize, rate: Rate, router: (u8, u8)) -> Turn
     }
 }
 
+// What stands behind the last flow's line.
+const NO_LINE: Line = Line {
+    slack: Units(0),
+    turn: None,
+};
+
 // The line of flow `k`, counted from 0.
 fn line_of(table: &Table, k: usize) -> Line
-    ensures { count table.now ≤ 64 → (x : ℕ → ℕ) → line_of (count table.now) x result ≡ least_burst table.now x k }
+    ensures { (x : ℕ → ℕ) → line_of (count table.now) x result ≡ least_burst table.now x k }
 {
     let flow = flow_at(table, k);
     Line {
@@ -45,12 +61,15 @@ fn line_of(table: &Table, k: usize) -> Line
 }
 
 // The lines of a table's flows.
+// (by index: `array::from_fn` would make all 64 lines, whatever the count, and move them four times)
 pub fn lines_of(table: &Table) -> Lines
     ensures count { result.count ≡ count table.now }
     ensures each { (i : ℕ) → i < count table.now → (x : ℕ → ℕ) → line_at result x i ≡ least_burst table.now x i }
 {
-    Lines {
-        count: table.flows().len(),
-        lines: array::from_fn(|k| line_of(table, k)),
+    let mut lines = [NO_LINE; 64];
+    let count = table.flows().len();
+    for k in 0..count {
+        lines[k] = line_of(table, k);
     }
+    Lines { count, lines }
 }

@@ -10,7 +10,7 @@ use crate::rounding::divide_up;
 use least::System;
 
 // No burst is larger.
-const CEILING: u32 = 131_072;
+const CEILING: u64 = 131_072;
 
 // What the flows from the north bring together; with an `if` in place of the product, the longest
 // admission takes 10 ms and not 6.
@@ -53,7 +53,7 @@ impl Line {
 fn capped(burst: u64) -> Option<u32>
     ensures { Capped burst most result }
 {
-    u32::try_from(burst).ok().filter(|burst| *burst <= CEILING)
+    (burst <= CEILING).then(|| burst as u32)
 }
 
 impl System for Lines {

@@ -20,7 +20,8 @@ impl Table {
     }
 
     pub fn dimensions(&self) -> Dimensions
-        ensures { result ≡ self.now.dimensions }
+        ensures value { result ≡ self.now.dimensions }
+        ensures few { length self.now.flows ≤ 64 }
     {
         self.dimensions
     }

@@ -7,7 +7,7 @@ pub returns : goal.returns
 returns c =
     let k = c.args.table.now in
     three (torus_line k.dimensions) (flow_lines 1 k.flows) (count_line (length k.flows)) c.new-text.ensures
-    (rw c.dimensions.ensures at c.torus_line.ensures.says)
+    (rw c.dimensions.ensures.value at c.torus_line.ensures.says)
     (rw c.flows.ensures.value at c.flow_lines.ensures.says)
     (rw c.flows-2.ensures.value at c.count_line.ensures)
-    (table_short k (rw c.dimensions.ensures at c.torus_line.ensures.small) (rw c.flows.ensures.value at c.flow_lines.ensures.small) (c.flows.ensures.few))
+    (table_short k (rw c.dimensions.ensures.value at c.torus_line.ensures.small) (rw c.flows.ensures.value at c.flow_lines.ensures.small) (c.flows.ensures.few))

@@ -1,4 +1,5 @@
 use Rattle.std.proofs.Common.{◌+◌, ◌≤◌, ◌++◌, length, ap, ◌∙◌, subst, arith}
+use Rattle.bounds.specs.Sums.{units_of}
 use Rattle.plan.specs.Told.{FlowSmall}
 use Rattle.text.specs.Clipped.{clipped}
 use Rattle.listing.specs.Plans.{bounds_line}
@@ -11,7 +12,7 @@ returns c =
     let p = c.args.plan.now in
     let k = c.args.k in
     let b = c.unwrap-bounds.result in
-    let told = flow_told_lem p k c.flow.result b c.requires c.flow.ensures.value c.unwrap-bounds.ensures in
+    let told = flow_told_lem p.table (units_of p.bursts) k c.flow.result b c.requires c.flow.ensures.value c.unwrap-bounds.ensures in
     let small = subst FlowSmall c.unwrap-bounds.ensures c.flow.ensures.small in
     record {
       says = c.bounds_line.ensures ∙ ap (λ e. clipped (c.args.text.now ++ bounds_line (k + 1) e)) told;

@@ -1,4 +1,5 @@
 use Rattle.std.proofs.Common.{◌≡◌, ◌≤◌, true, ◌++◌, length, sym, ap, ◌∙◌, subst, arith}
+use Rattle.bounds.specs.Sums.{units_of}
 use Rattle.bounds.specs.Bounds.{is_turn}
 use Rattle.plan.specs.Told.{RouterSmall}
 use Rattle.plan.proofs.Filled.{side_le}
@@ -14,9 +15,9 @@ returns-then-bounds c =
     let p = c.args.plan.now in
     let r = c.args.router in
     let b = c.unwrap-bounds.result in
-    let told = router_told_lem p r c.router.result b c.requires.column c.requires.row c.router.ensures.value c.unwrap-bounds.ensures in
+    let told = router_told_lem p.table (units_of p.bursts) r c.router.result b c.requires.column c.requires.row c.router.ensures.value c.unwrap-bounds.ensures in
     let turns : is_turn p.table r ≡ true = sym (ap (λ e. e.turns) told) ∙ c.if-bounds.true in
-    let line = ap (queue_line r) told ∙ sym (a_line p r turns) in
+    let line = ap (queue_line r) told ∙ sym (a_line p.table (units_of p.bursts) r turns) in
     let small = subst RouterSmall c.unwrap-bounds.ensures c.router.ensures.small in
     let most = side_le p.table c.args.plan.now.ranged in
     record {

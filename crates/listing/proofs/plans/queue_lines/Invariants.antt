@@ -1,6 +1,7 @@
+use Rattle.bounds.specs.Sums.{units_of}
 use Rattle.listing.specs.Plans.{queue_row}
 use Rattle.listing.proofs.Pieces.{Lined}
 use Rattle.listing.proofs.plans.queue_lines.Given as goal
 
 abbrev pub invariant-loop-y : goal.invariant-loop-y
-invariant-loop-y l = Lined l.initial.text l.text 264 l.y (queue_row l.plan)
+invariant-loop-y l = Lined l.initial.text l.text 264 l.y (queue_row l.plan.table (units_of l.plan.bursts))

@@ -1,4 +1,5 @@
 use Rattle.std.proofs.Common.{◌≡◌, ap, subst, arith}
+use Rattle.bounds.specs.Sums.{units_of}
 use Rattle.bounds.specs.Bounds.{side}
 use Rattle.plan.proofs.Filled.{side_le}
 use Rattle.listing.specs.Plans.{queue_at}
@@ -11,6 +12,6 @@ loop-x-preserved c = lined_more _ _ _ _ _ _ c.loop-x.invariant c.queue_at.ensure
 pub returns : goal.returns
 returns c =
     let p = c.args.plan.now in
-    let all : c.loop-x.x ≡ side p.table = omega (arith, ap (λ e. e.side) c.dimensions-x-end.ensures, ap (λ u. u.dimensions.side) c.table.ensures) in
-    let row = subst (λ n. Lined c.args.text.now c.loop-x.text 33 n (λ column. queue_at p (column, c.args.y))) all c.loop-x.invariant in
+    let all : c.loop-x.x ≡ side p.table = omega (arith, ap (λ e. e.side) c.dimensions-x-end.ensures.value, ap (λ u. u.dimensions.side) c.table.ensures) in
+    let row = subst (λ n. Lined c.args.text.now c.loop-x.text 33 n (λ column. queue_at p.table (units_of p.bursts) (column, c.args.y))) all c.loop-x.invariant in
     record { says = row.says; small = omega (arith, row.short, side_le p.table c.args.plan.now.ranged) }

@@ -1,18 +1,19 @@
-use Rattle.std.proofs.Common.{◌≡◌, ℕ, ◌<◌, length, get_or, None, rules, ap, ◌∙◌, arith}
-use Rattle.std.proofs.lemmas.List.{get_or-map}
-use Rattle.bounds.specs.declared.lines.Line.{Line}
+use Rattle.std.proofs.Common.{◌<◌, ◌≢◌, map, length, get_or, ap, ◌∙◌, arith, below_more}
+use Rattle.std.proofs.lemmas.List.{length-set, length-map, map-set, get_or-set_same, get_or-set_other}
 use Rattle.bounds.specs.Sums.{count}
-use Rattle.bounds.specs.Lines.{line_of, least_burst}
-use Rattle.bounds.proofs.Arrays.{each_made}
+use Rattle.bounds.specs.Lines.{line_of}
 use Rattle.bounds.proofs.lines.build.lines_of.Goals as goal
 
-pub returns-clause-each : goal.returns-clause-each
-returns-clause-each c i h x =
-    let t = c.args.table.now in
-    let ls = c.from_fn.result in
-    let d : Line = record { slack = record { 0 = 0 }; turn = None } in
-    let few = c.flows.ensures.few in
-    let within : i < length ls = omega (arith, c.from_fn.ensures.items.long) in
-    get_or-map _ ls i d 0 within
-    ∙ (ap (λ fs. line_of (length fs) x (get_or ls i d)) c.flows.ensures.value
-    ∙ each_made _ _ (λ j l. (y : ℕ → ℕ) → line_of (count t) y l ≡ least_burst t y j) (λ j l q e. (search rules, λ y. search (rules, few))) ls 64 c.from_fn.ensures.items i d (omega arith) x)
+pub loop-k-preserved : goal.loop-k-preserved
+loop-k-preserved c =
+    let k = c.loop-k.k in
+    let ls = c.loop-k.lines in
+    let l = c.line_of.result in
+    let f = line_of (count c.args.table.now) in (
+      length-set ls k l ∙ c.loop-k.invariant.0,
+      below_more _ _
+          (λ i h x. let ne : i ≢ k = omega arith in
+          ap (λ vs. get_or vs i 0) (map-set (f x) ls k l) ∙ (get_or-set_other (map (f x) ls) k i (f x l) 0 ne ∙ c.loop-k.invariant.1 i h x))
+          (λ x. let in-k : k < length (map (f x) ls) = omega (arith, c.loop-k.invariant.0, length-map ls (f x), c.flows-count.ensures.few, ap length c.flows-count.ensures.value) in
+          ap (λ vs. get_or vs k 0) (map-set (f x) ls k l) ∙ (get_or-set_same (map (f x) ls) k (f x l) 0 in-k ∙ c.line_of.ensures x)),
+    )

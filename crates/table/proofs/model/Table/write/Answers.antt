@@ -11,7 +11,7 @@ returns-clause-wrote c =
     let long = c.file_length-size.ensures.length ∙ length_encode t in (
       c.file_length-size.ensures.length,
       omega arith,
-      rw (c.put-2.ensures, c.end_record.ensures, c.put_flows.ensures, c.put.ensures, c.head_record.ensures, c.dimensions.ensures, c.flows-flows.ensures.value)
+      rw (c.put-2.ensures, c.end_record.ensures, c.put_flows.ensures, c.put.ensures, c.head_record.ensures, c.dimensions.ensures.value, c.flows-flows.ensures.value)
           (put_all t c.end.result c.args.place.now (omega arith) (omega arith)),
     )
 
