@@ -61,15 +61,15 @@ fn line_of(table: &Table, k: usize) -> Line
 }
 
 // The lines of a table's flows.
-// (by index: `array::from_fn` would make all 64 lines, whatever the count, and move them four times)
+// (put in place: `array::from_fn` would make all 64 lines, whatever the count, and move them four times)
 pub fn lines_of(table: &Table) -> Lines
     ensures count { result.count ≡ count table.now }
     ensures each { (i : ℕ) → i < count table.now → (x : ℕ → ℕ) → line_at result x i ≡ least_burst table.now x i }
 {
     let mut lines = [NO_LINE; 64];
     let count = table.flows().len();
-    for k in 0..count {
-        lines[k] = line_of(table, k);
+    for (k, line) in lines[..count].iter_mut().enumerate() {
+        *line = line_of(table, k);
     }
     Lines { count, lines }
 }
