@@ -61,7 +61,7 @@ fn line_of(table: &Table, k: usize) -> Line
 }
 
 // The lines of a table's flows.
-// (put in place: `array::from_fn` would make all 64 lines, whatever the count, and move them four times)
+// (put in place: `array::from_fn` would make all 64 lines, whatever the count)
 pub fn lines_of(table: &Table) -> Lines
     ensures count { result.count ≡ count table.now }
     ensures each { (i : ℕ) → i < count table.now → (x : ℕ → ℕ) → line_at result x i ≡ least_burst table.now x i }
