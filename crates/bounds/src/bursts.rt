@@ -1,5 +1,6 @@
 // The least bursts of a table's flows.
 ghost use Rattle.std.specs.Prelude.{◌≡◌, ℕ, ◌≤◌, length};
+ghost use Rattle.table.specs.Content.{content};
 ghost use Rattle.least.specs.Systems.{entries_of};
 ghost use Rattle.bounds.specs.Sums.{units_of};
 ghost use Rattle.bounds.specs.Lines.{Solved};
@@ -31,7 +32,7 @@ fn solve(lines: &Lines, place: &mut [u32]) -> Result<(), Unmet>
 
 // The least bursts that keep the rules, with nothing behind the last flow, or that none do.
 pub fn least_bursts(table: &Table) -> Result<[Units; 64], Unmet>
-    ensures { Bounded table.now result }
+    ensures { Bounded (content table.now) result }
 {
     let mut entries = [0; 64];
     let place = &mut entries[..table.flows().len()];

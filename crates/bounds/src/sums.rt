@@ -1,6 +1,7 @@
 // Sums over flows of a table, each told to a closure with its index, counted from 0.
 // (`small` stands at each sum: a struct for a sum and its bound would be taken apart at every use)
 ghost use Rattle.std.specs.Prelude.{◌≡◌, ℕ, ◌-◌, ◌*◌, ◌^◌, ◌<◌, ◌≤◌, Bool};
+ghost use Rattle.table.specs.Content.{content};
 ghost use Rattle.bounds.specs.Sums.{over, units_of};
 ghost use Rattle.bounds.specs.Calls.{Answers, Narrow};
 ghost use Rattle.bounds.specs.Bounds.{frame as frame_of, rate, slack as slack_of};
@@ -17,7 +18,7 @@ where
     V: Fn(usize, &Flow) -> u32,
     requires test { T.IsAlwaysCallable test }
     requires value { V.IsAlwaysCallable value }
-    ensures value { (p : ℕ → Bool) (w : ℕ → ℕ) → Answers table.now (T.post test) p → Answers table.now (V.post value) w → result ≡ over table.now p w }
+    ensures value { (p : ℕ → Bool) (w : ℕ → ℕ) → Answers (content table.now) (T.post test) p → Answers (content table.now) (V.post value) w → result ≡ over (content table.now) p w }
     ensures small { result ≤ 64 * 4294967295 }
     ensures narrow { Narrow (V.post value) → result ≤ 64 * 65535 }
 {
@@ -32,7 +33,7 @@ where
 
 // The units of a packet.
 pub(crate) fn frame(table: &Table) -> u64
-    ensures value { result ≡ frame_of table.now }
+    ensures value { result ≡ frame_of (content table.now) }
     ensures small { result < 2 ^ 16 }
 {
     u64::from(table.dimensions().frame.0)
@@ -48,7 +49,7 @@ fn rate_of(_: usize, flow: &Flow) -> u32
 
 pub(crate) fn rates<T: Fn(usize, &Flow) -> bool>(table: &Table, test: T) -> u64
     requires { T.IsAlwaysCallable test }
-    ensures value { (p : ℕ → Bool) → Answers table.now (T.post test) p → result ≡ over table.now p (rate table.now) }
+    ensures value { (p : ℕ → Bool) → Answers (content table.now) (T.post test) p → result ≡ over (content table.now) p (rate (content table.now)) }
     ensures small { result ≤ 64 * 65535 }
 {
     total(table, test, rate_of)
@@ -64,7 +65,7 @@ pub(crate) fn slack(frame: Frame, flow: &Flow) -> Units
 
 pub(crate) fn slacks<T: Fn(usize, &Flow) -> bool>(table: &Table, test: T) -> u64
     requires { T.IsAlwaysCallable test }
-    ensures value { (p : ℕ → Bool) → Answers table.now (T.post test) p → result ≡ over table.now p (slack_of table.now) }
+    ensures value { (p : ℕ → Bool) → Answers (content table.now) (T.post test) p → result ≡ over (content table.now) p (slack_of (content table.now)) }
     ensures small { result ≤ 64 * 4294967295 }
 {
     let frame = table.dimensions().frame;
@@ -74,7 +75,7 @@ pub(crate) fn slacks<T: Fn(usize, &Flow) -> bool>(table: &Table, test: T) -> u64
 impl Bounds<'_> {
     pub(crate) fn bursts_of<T: Fn(usize, &Flow) -> bool>(&self, test: T) -> u64
         requires { T.IsAlwaysCallable test }
-        ensures value { (p : ℕ → Bool) → Answers self.now.table.now (T.post test) p → result ≡ over self.now.table.now p (units_of self.now.bursts.now) }
+        ensures value { (p : ℕ → Bool) → Answers (content self.now.table.now) (T.post test) p → result ≡ over (content self.now.table.now) p (units_of self.now.bursts.now) }
         ensures small { result ≤ 64 * 4294967295 }
     {
         let bursts = self.bursts;

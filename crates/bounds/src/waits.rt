@@ -1,5 +1,6 @@
 // Waits at the source, and the whole latency.
 ghost use Rattle.std.specs.Prelude.{◌≡◌, ◌*◌, ◌^◌, ◌<◌, ◌≤◌};
+ghost use Rattle.table.specs.Content.{content};
 ghost use Rattle.bounds.specs.Sums.{units_of};
 ghost use Rattle.bounds.specs.Bounds as bound;
 
@@ -13,7 +14,7 @@ use torus::{Torus, turns, turns_at};
 
 // The rates of the users of a flow's outlet at its source.
 fn outlet_rates(table: &Table, flow: &Flow) -> u64
-    ensures value { result ≡ bound.outlet_rates table.now flow.now }
+    ensures value { result ≡ bound.outlet_rates (content table.now) flow.now }
     ensures small { result ≤ 128 * 65535 }
 {
     let (torus, source) = (Torus::from(table.dimensions()), flow.source);
@@ -25,7 +26,7 @@ fn outlet_rates(table: &Table, flow: &Flow) -> u64
 
 // The rates of the rivals of flow `own`.
 fn rival_rates(table: &Table, own: usize) -> u64
-    ensures value { result ≡ bound.rival_rates table.now own }
+    ensures value { result ≡ bound.rival_rates (content table.now) own }
     ensures small { result ≤ 192 * 65535 }
 {
     let flow = flow_at(table, own);
@@ -35,7 +36,7 @@ fn rival_rates(table: &Table, own: usize) -> u64
 
 // Whether flow `k`, counted from 0, and its rivals bring more than a step takes.
 pub fn is_crowded(table: &Table, k: usize) -> bool
-    ensures { result ≡ bound.crowded table.now k }
+    ensures { result ≡ bound.crowded (content table.now) k }
 {
     let rate = u64::from(flow_at(table, k).rate.0);
     frame(table) < rival_rates(table, k) + rate
@@ -44,7 +45,7 @@ pub fn is_crowded(table: &Table, k: usize) -> bool
 impl Bounds<'_> {
     // What the users of a flow's outlet at its source can send at once.
     fn outlet_units(&self, flow: &Flow) -> u64
-        ensures value { result ≡ bound.outlet_units self.now.table.now (units_of self.now.bursts.now) flow.now }
+        ensures value { result ≡ bound.outlet_units (content self.now.table.now) (units_of self.now.bursts.now) flow.now }
         ensures small { result ≤ 128 * 4294967295 }
     {
         let (torus, source) = (Torus::from(self.table.dimensions()), flow.source);
@@ -56,7 +57,7 @@ impl Bounds<'_> {
 
     // What the rivals of flow `own` can send at once.
     fn rival_units(&self, own: usize) -> u64
-        ensures value { result ≡ bound.rival_units self.now.table.now (units_of self.now.bursts.now) own }
+        ensures value { result ≡ bound.rival_units (content self.now.table.now) (units_of self.now.bursts.now) own }
         ensures small { result ≤ 192 * 4294967295 }
     {
         let flow = flow_at(self.table, own);
@@ -69,7 +70,7 @@ impl Bounds<'_> {
 
     // The steps that a covered packet of flow `k` can wait in its mouth.
     pub fn wait(&self, k: usize) -> Steps
-        ensures value { result.0 ≡ bound.wait self.now.table.now (units_of self.now.bursts.now) k }
+        ensures value { result.0 ≡ bound.wait (content self.now.table.now) (units_of self.now.bursts.now) k }
         ensures small { result.0 < 10 ^ 12 }
     {
         let left = frame(self.table).saturating_sub(rival_rates(self.table, k));
@@ -78,7 +79,7 @@ impl Bounds<'_> {
 
     // The steps in which a covered packet of flow `k` is delivered.
     pub fn latency(&self, k: usize) -> Steps
-        ensures value { result.0 ≡ bound.latency self.now.table.now (units_of self.now.bursts.now) k }
+        ensures value { result.0 ≡ bound.latency (content self.now.table.now) (units_of self.now.bursts.now) k }
         ensures small { result.0 < 10 ^ 13 }
     {
         let waiting = self.wait(k).0 + self.turn_delay(k).0;

@@ -3,6 +3,7 @@ use Rattle.std.specs.Prelude.{◌≡◌, ℕ, ◌<◌, ◌≤◌, List, length, 
 use Rattle.table.specs.declared.fault.Fault.{Fault}
 use Rattle.table.specs.declared.fault.Layer.TheVariants as layers
 use Rattle.table.specs.declared.fault.Place.TheVariants.{Nowhere}
+use Rattle.table.specs.Content.{content}
 use Rattle.table.specs.Format.{encode}
 use Rattle.table.specs.Writing.{over}
 use Rattle.bounds.specs.Sums.{units_of}
@@ -15,7 +16,7 @@ use Rattle.listing.specs.Plans.{plan_text}
 
 -- s is the listing of the bytes bs: the text of the plan of the table whose file they are, or the line of the fault that they are refused by
 pub data Listed (bs s : List ℕ) : Type 0 where
-  admitted : (p : Plan) → bs ≡ encode p.table → s ≡ plan_text p.table (units_of p.bursts) → Listed bs s
+  admitted : (p : Plan) → bs ≡ encode (content p.table) → s ≡ plan_text (content p.table) (units_of p.bursts) → Listed bs s
   refused : (f : PlanFault) → TurnedDown bs f → s ≡ refused_line (whole_of f) → Listed bs s
 
 -- the place is too short for the listing

@@ -1,5 +1,6 @@
 // The listing of a table file, to a caller's place.
 ghost use Rattle.std.specs.Prelude.{◌≤◌, length};
+ghost use Rattle.text.specs.Said.{said};
 ghost use Rattle.listing.specs.Listed.{Listed, Given, Lists};
 
 use crate::lines::refused_line;
@@ -19,7 +20,7 @@ pub fn list(bytes: &[u8], place: &mut [u8]) -> Result<usize, Fault>
 
 // The text of the plan of the table whose file the bytes are, or the line that says why they are refused.
 fn listing(bytes: &[u8]) -> Text
-    ensures { Listed bytes.now result }
+    ensures { Listed bytes.now (said result) }
 {
     let mut plan = Plan::empty();
     match plan.load(bytes) {
@@ -31,8 +32,8 @@ fn listing(bytes: &[u8]) -> Text
 // Nothing is written unless the whole text fits.
 // (the fault stands here: an enum for this refusal alone would say no more)
 fn give(text: &Text, place: &mut [u8]) -> Result<usize, Fault>
-    ensures given { Given text.now place.old place.new result }
-    ensures small { length text.now ≤ 8192 }
+    ensures given { Given (said text.now) place.old place.new result }
+    ensures small { length (said text.now) ≤ 8192 }
 {
     let bytes = text.as_bytes();
     let len = bytes.len();

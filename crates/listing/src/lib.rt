@@ -1,6 +1,9 @@
 // Lines of text about a table, about a plan, and about a fault.
 #![tactic(auto)]
 
+ghost use Rattle.std.specs.Prelude.{◌≤◌, length};
+ghost use Rattle.text.specs.Said.{said};
+
 mod answer;
 mod lines;
 mod plans;
@@ -18,6 +21,14 @@ mod tests {
     use quantity::{Depth, Frame, Packets, Rate};
     use std::test::Fail;
     use table::{Dimensions, Fault, Flow, Layer, Place, Table};
+    use text::Text;
+
+    // The most bytes that a text has; a reference to it tells so with no call.
+    fn most(text: &Text) -> usize
+        ensures { length (said text.now) ≤ result }
+    {
+        8192
+    }
 
     // The table that the first listings are about.
     fn five_flows() -> Result<Table, Fail> {
@@ -88,6 +99,7 @@ admitted 5
     #[test]
     fn a_plan_without_flows(rt: HostRuntime) {
         let text = plan_text(&Plan::empty());
+        assert!(rt; text.as_bytes().len() < most(&text));
         assert!(rt; text.as_bytes() == b"torus 2 depth 1 frame 2\nadmitted 0\n".as_slice());
     }
 

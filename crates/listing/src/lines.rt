@@ -4,7 +4,9 @@
 // `small` says how large the numbers of a line are, so that a whole text is known to have room.
 ghost use Rattle.std.specs.Prelude.{◌≡◌, ℕ, ◌<◌, ◌++◌, length, codes, decimal, slice_index_or};
 ghost use Rattle.text.specs.Clipped.{clipped, Joins};
+ghost use Rattle.text.specs.Said.{said};
 ghost use Rattle.table.specs.Blank.{blank};
+ghost use Rattle.table.specs.Content.{content};
 ghost use Rattle.listing.specs.Small.{DimensionsSmall, FlowSmall, PlaceSmall};
 ghost use Rattle.listing.specs.Lines.{router_words, torus_line, flow_line, flow_lines, count_line, table_text, place_words, refused_line};
 
@@ -13,7 +15,7 @@ use text::Text;
 
 // A line about the torus, one for each flow, and how many flows there are.
 pub fn table_text(table: &Table) -> Text
-    ensures { result ≡ table_text table.now }
+    ensures { said result ≡ table_text (content table.now) }
 {
     let mut text = Text::new();
     torus_line(&mut text, table.dimensions());
@@ -24,7 +26,7 @@ pub fn table_text(table: &Table) -> Text
 
 // The refusal's number, and the place at fault if it has one.
 pub fn refused_line(fault: Fault) -> Text
-    ensures { result ≡ refused_line fault }
+    ensures { said result ≡ refused_line fault }
 {
     let mut text = Text::new();
     text.labelled(b"refused ", fault.number as u64);
@@ -34,7 +36,7 @@ pub fn refused_line(fault: Fault) -> Text
 }
 
 pub(crate) fn torus_line(text: &mut Text, dimensions: Dimensions)
-    ensures says { text.new ≡ clipped (text.old ++ torus_line dimensions) }
+    ensures says { said text.new ≡ clipped (said text.old ++ torus_line dimensions) }
     ensures small { DimensionsSmall dimensions }
 {
     text.labelled(b"torus ", dimensions.side as u64);
@@ -45,7 +47,7 @@ pub(crate) fn torus_line(text: &mut Text, dimensions: Dimensions)
 
 // Flows are numbered from 1.
 fn flow_lines(text: &mut Text, flows: &[Flow])
-    ensures says { Joins text.old (λ a. a ++ flow_lines 1 flows.now) text.new }
+    ensures says { Joins (said text.old) (λ a. a ++ flow_lines 1 flows.now) (said text.new) }
     ensures small { (k : ℕ) → k < length flows.now → FlowSmall (slice_index_or flows.now k blank) }
 {
     for (i, flow) in flows.iter().enumerate() {
@@ -54,7 +56,7 @@ fn flow_lines(text: &mut Text, flows: &[Flow])
 }
 
 fn flow_line(text: &mut Text, number: usize, flow: Flow)
-    ensures says { text.new ≡ clipped (text.old ++ flow_line number flow) }
+    ensures says { said text.new ≡ clipped (said text.old ++ flow_line number flow) }
     ensures small { FlowSmall flow }
 {
     text.labelled(b"flow ", number as u64);
@@ -66,8 +68,8 @@ fn flow_line(text: &mut Text, number: usize, flow: Flow)
 
 // A label, and then the router's column and row.
 pub(crate) fn router_words(text: &mut Text, label: &[u8], router: (u8, u8))
-    ensures says { text.new ≡ clipped (text.old ++ router_words label.now router) }
-    ensures joins { Joins text.old (λ a. router_words (a ++ label.now) router) text.new }
+    ensures says { said text.new ≡ clipped (said text.old ++ router_words label.now router) }
+    ensures joins { Joins (said text.old) (λ a. router_words (a ++ label.now) router) (said text.new) }
 {
     text.labelled(label, router.0 as u64);
     text.labelled(b" ", router.1 as u64);
@@ -75,21 +77,21 @@ pub(crate) fn router_words(text: &mut Text, label: &[u8], router: (u8, u8))
 
 // The end of a flow's line: its token bucket.
 fn bucket_words(text: &mut Text, flow: Flow)
-    ensures { Joins text.old (λ a. a ++ codes " burst " ++ decimal flow.burst.0 ++ codes " rate " ++ decimal flow.rate.0) text.new }
+    ensures { Joins (said text.old) (λ a. a ++ codes " burst " ++ decimal flow.burst.0 ++ codes " rate " ++ decimal flow.rate.0) (said text.new) }
 {
     text.labelled(b" burst ", flow.burst.0 as u64);
     text.labelled(b" rate ", flow.rate.0 as u64);
 }
 
 fn count_line(text: &mut Text, count: usize)
-    ensures { text.new ≡ clipped (text.old ++ count_line count) }
+    ensures { said text.new ≡ clipped (said text.old ++ count_line count) }
 {
     text.labelled(b"flows ", count as u64);
     text.put(b"\n");
 }
 
 fn place_words(text: &mut Text, place: Place)
-    ensures says { Joins text.old (λ a. a ++ place_words place) text.new }
+    ensures says { Joins (said text.old) (λ a. a ++ place_words place) (said text.new) }
     ensures small { PlaceSmall place }
 {
     match place {

@@ -3,6 +3,8 @@
 // `small` says how long a piece is, so that a whole text is known to have room.
 ghost use Rattle.std.specs.Prelude.{◌≡◌, ◌<◌, ◌≤◌, ◌++◌, length, decimal};
 ghost use Rattle.text.specs.Clipped.{clipped, Joins};
+ghost use Rattle.text.specs.Said.{said};
+ghost use Rattle.table.specs.Content.{content};
 ghost use Rattle.bounds.specs.Sums.{count, units_of};
 ghost use Rattle.bounds.specs.Bounds.{side};
 ghost use Rattle.listing.specs.Plans.{bounds_line, bounds_at, bounds_lines, queue_line, queue_at, queue_row, queue_lines, admitted_line, plan_text};
@@ -13,7 +15,7 @@ use text::Text;
 
 // A line about the torus, one for each flow and for each router where a flow turns, and how many flows are admitted.
 pub fn plan_text(plan: &Plan) -> Text
-    ensures { result ≡ plan_text plan.now.table (units_of plan.now.bursts) }
+    ensures { said result ≡ plan_text (content plan.now.table) (units_of plan.now.bursts) }
 {
     let mut text = Text::new();
     torus_line(&mut text, plan.table().dimensions());
@@ -24,8 +26,8 @@ pub fn plan_text(plan: &Plan) -> Text
 }
 
 fn bounds_lines(text: &mut Text, plan: &Plan)
-    ensures says { Joins text.old (λ a. a ++ bounds_lines plan.now.table (units_of plan.now.bursts)) text.new }
-    ensures small { length (bounds_lines plan.now.table (units_of plan.now.bursts)) ≤ 5632 }
+    ensures says { Joins (said text.old) (λ a. a ++ bounds_lines (content plan.now.table) (units_of plan.now.bursts)) (said text.new) }
+    ensures small { length (bounds_lines (content plan.now.table) (units_of plan.now.bursts)) ≤ 5632 }
 {
     // (by number: it is by its number that a plan tells a flow's bounds)
     for k in 0..plan.table().flows().len() {
@@ -35,16 +37,16 @@ fn bounds_lines(text: &mut Text, plan: &Plan)
 
 // The line of flow k, which counts from 0; its number counts from 1.
 fn bounds_at(text: &mut Text, plan: &Plan, k: usize)
-    requires { k < count plan.now.table }
-    ensures says { text.new ≡ clipped (text.old ++ bounds_at plan.now.table (units_of plan.now.bursts) k) }
-    ensures small { length (bounds_at plan.now.table (units_of plan.now.bursts) k) ≤ 88 }
+    requires { k < count (content plan.now.table) }
+    ensures says { said text.new ≡ clipped (said text.old ++ bounds_at (content plan.now.table) (units_of plan.now.bursts) k) }
+    ensures small { length (bounds_at (content plan.now.table) (units_of plan.now.bursts) k) ≤ 88 }
 {
     let bounds = plan.flow(k + 1).unwrap();
     bounds_line(text, k + 1, bounds);
 }
 
 fn bounds_line(text: &mut Text, number: usize, bounds: FlowBounds)
-    ensures { text.new ≡ clipped (text.old ++ bounds_line number bounds) }
+    ensures { said text.new ≡ clipped (said text.old ++ bounds_line number bounds) }
 {
     text.labelled(b"flow ", number as u64);
     text.labelled(b" burst ", bounds.burst.0 as u64);
@@ -61,7 +63,7 @@ fn bounds_line(text: &mut Text, number: usize, bounds: FlowBounds)
 
 // A label and its number, and another label and its number.
 fn two_words(text: &mut Text, first: &[u8], m: u64, second: &[u8], n: u64)
-    ensures { Joins text.old (λ a. a ++ first.now ++ decimal m ++ second.now ++ decimal n) text.new }
+    ensures { Joins (said text.old) (λ a. a ++ first.now ++ decimal m ++ second.now ++ decimal n) (said text.new) }
 {
     text.labelled(first, m);
     text.labelled(second, n);
@@ -69,8 +71,8 @@ fn two_words(text: &mut Text, first: &[u8], m: u64, second: &[u8], n: u64)
 
 // Row by row.
 fn queue_lines(text: &mut Text, plan: &Plan)
-    ensures says { Joins text.old (λ a. a ++ queue_lines plan.now.table (units_of plan.now.bursts)) text.new }
-    ensures small { length (queue_lines plan.now.table (units_of plan.now.bursts)) ≤ 2112 }
+    ensures says { Joins (said text.old) (λ a. a ++ queue_lines (content plan.now.table) (units_of plan.now.bursts)) (said text.new) }
+    ensures small { length (queue_lines (content plan.now.table) (units_of plan.now.bursts)) ≤ 2112 }
 {
     for y in 0..plan.table().dimensions().side {
         queue_row(text, plan, y);
@@ -78,9 +80,9 @@ fn queue_lines(text: &mut Text, plan: &Plan)
 }
 
 fn queue_row(text: &mut Text, plan: &Plan, y: u8)
-    requires { y < side plan.now.table }
-    ensures says { Joins text.old (λ a. a ++ queue_row plan.now.table (units_of plan.now.bursts) y) text.new }
-    ensures small { length (queue_row plan.now.table (units_of plan.now.bursts) y) ≤ 264 }
+    requires { y < side (content plan.now.table) }
+    ensures says { Joins (said text.old) (λ a. a ++ queue_row (content plan.now.table) (units_of plan.now.bursts) y) (said text.new) }
+    ensures small { length (queue_row (content plan.now.table) (units_of plan.now.bursts) y) ≤ 264 }
 {
     for x in 0..plan.table().dimensions().side {
         queue_at(text, plan, (x, y));
@@ -89,10 +91,10 @@ fn queue_row(text: &mut Text, plan: &Plan, y: u8)
 
 // The line of a router of the torus, or nothing where no flow turns.
 fn queue_at(text: &mut Text, plan: &Plan, router: (u8, u8))
-    requires column { router.0 < side plan.now.table }
-    requires row { router.1 < side plan.now.table }
-    ensures says { Joins text.old (λ a. a ++ queue_at plan.now.table (units_of plan.now.bursts) router) text.new }
-    ensures small { length (queue_at plan.now.table (units_of plan.now.bursts) router) ≤ 33 }
+    requires column { router.0 < side (content plan.now.table) }
+    requires row { router.1 < side (content plan.now.table) }
+    ensures says { Joins (said text.old) (λ a. a ++ queue_at (content plan.now.table) (units_of plan.now.bursts) router) (said text.new) }
+    ensures small { length (queue_at (content plan.now.table) (units_of plan.now.bursts) router) ≤ 33 }
 {
     let bounds = plan.router(router).unwrap();
     if bounds.turns {
@@ -101,7 +103,7 @@ fn queue_at(text: &mut Text, plan: &Plan, router: (u8, u8))
 }
 
 fn queue_line(text: &mut Text, router: (u8, u8), bounds: RouterBounds)
-    ensures { text.new ≡ clipped (text.old ++ queue_line router bounds) }
+    ensures { said text.new ≡ clipped (said text.old ++ queue_line router bounds) }
 {
     router_words(text, b"router ", router);
     text.labelled(b" backlog ", bounds.backlog.0 as u64);
@@ -110,7 +112,7 @@ fn queue_line(text: &mut Text, router: (u8, u8), bounds: RouterBounds)
 }
 
 fn admitted_line(text: &mut Text, count: usize)
-    ensures { text.new ≡ clipped (text.old ++ admitted_line count) }
+    ensures { said text.new ≡ clipped (said text.old ++ admitted_line count) }
 {
     text.labelled(b"admitted ", count as u64);
     text.put(b"\n");

@@ -1,4 +1,5 @@
 // What is shown of a table file.
+ghost use Rattle.text.specs.Said.{said};
 ghost use Rattle.listing.specs.Shown.{Shown};
 
 use crate::lines::{refused_line, table_text};
@@ -7,7 +8,7 @@ use text::Text;
 
 // The flows of the table whose file the bytes are, or the line that says why they are refused.
 pub fn show(bytes: &[u8]) -> Text
-    ensures { Shown bytes.now result }
+    ensures { Shown bytes.now (said result) }
 {
     match Table::read(bytes) {
         Ok(table) => table_text(&table),

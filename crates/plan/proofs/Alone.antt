@@ -6,7 +6,7 @@ use Rattle.std.proofs.lemmas.Bool.{cases_lt, true≢false, ltb-true}
 use Rattle.quantity.specs.declared.Packets.{Packets}
 use Rattle.quantity.specs.declared.Units.{Units}
 use Rattle.table.specs.declared.fault.Fault.{Fault}
-use Rattle.table.specs.Content.{Content}
+use Rattle.table.specs.Content.{Content, content}
 use Rattle.torus.proofs.Rings.{side_some}
 use Rattle.bounds.specs.Sums.{count, flow, units_of}
 use Rattle.bounds.specs.Bounds.{side, frame, is_north, north_bursts, turn_rates, turn_slacks, room, backlog, LeastBursts}
@@ -32,7 +32,7 @@ pub record Facts (c : Content) (us : List Units) (ps : List Packets) : Type 0 wh
   pub over : Over c ps
   pub deep : Deep c (units_of us)
 
-pub facts : (p : Plan) → Facts p.table p.bursts p.backlogs
+pub facts : (p : Plan) → Facts (content p.table) p.bursts p.backlogs
 facts p = record {
   long = p.long.0;
   wide = p.long.1;

@@ -1,7 +1,7 @@
 -- What admission answers.
 use Rattle.std.specs.Prelude.{◌≡◌, ℕ, true, false, Ok, Err, Result, ◌≢◌}
 use Rattle.table.specs.declared.fault.Fault.{Fault}
-use Rattle.table.specs.Content.{Content}
+use Rattle.table.specs.Content.{Content, content}
 use Rattle.bounds.specs.Sums.{count}
 use Rattle.bounds.specs.Bounds.{side, saturated, crowded, LeastBursts, NoBursts}
 use Rattle.plan.specs.declared.refusal.Refusal.{Refusal}
@@ -25,7 +25,7 @@ Against c (Shallow r) = Sound c × ((x : ℕ → ℕ) × LeastBursts c x × Firs
 
 -- a plan for this very table, or the reason against it
 abbrev pub Admits : Content → Result Plan Refusal → Type 0
-Admits c (Ok p) = p.table ≡ c
+Admits c (Ok p) = content p.table ≡ c
 Admits c (Err why) = Against c why
 
 -- the fault of a reason that stands against the table
@@ -34,10 +34,10 @@ Refused c f = (why : Refusal) × (f ≡ fault_of why) × Against c why
 
 -- the place holds the plan of the table, or it is as it was
 abbrev pub Admitted : Content → Plan → Plan → Result (Unit {0}) Fault → Type 0
-Admitted c before after (Ok u) = after.table ≡ c
+Admitted c before after (Ok u) = content after.table ≡ c
 Admitted c before after (Err f) = Refused c f × (after ≡ before)
 
 -- the plan in the place is the table's only one, and a refused table has none
 abbrev pub Alone : Content → Plan → Result (Unit {0}) Fault → Type 0
-Alone c after (Ok u) = (q : Plan) → q.table ≡ c → (q.bursts ≡ after.bursts) × (q.backlogs ≡ after.backlogs)
-Alone c after (Err f) = (q : Plan) → q.table ≢ c
+Alone c after (Ok u) = (q : Plan) → content q.table ≡ c → (q.bursts ≡ after.bursts) × (q.backlogs ≡ after.backlogs)
+Alone c after (Err f) = (q : Plan) → content q.table ≢ c

@@ -1,6 +1,7 @@
 // Admission: from a table to a plan.
 ghost use Rattle.std.specs.Prelude.{◌≡◌};
 ghost use Rattle.std.specs.Result.{MatchResult};
+ghost use Rattle.table.specs.Content.{content};
 ghost use Rattle.bounds.specs.Sums.{units_of};
 ghost use Rattle.plan.specs.Plans.{Sound, shallow};
 ghost use Rattle.plan.specs.Refusals.{Against};
@@ -14,7 +15,7 @@ use table::Table;
 
 // What can be seen before bursts are looked for: the table's own numbers, its flows, its turns and its sources.
 pub(crate) fn check(table: &Table) -> Result<(), Refusal>
-    ensures { MatchResult result (λ _. Sound table.now) (Against table.now) }
+    ensures { MatchResult result (λ _. Sound (content table.now)) (Against (content table.now)) }
 {
     let dimensions = table.dimensions();
     if !(2..=8).contains(&dimensions.side) {
@@ -40,7 +41,7 @@ pub(crate) fn check(table: &Table) -> Result<(), Refusal>
 
 // Whether a router's queue needs more than the table's depth.
 pub(crate) fn is_shallow(bounds: &Bounds, router: (u8, u8)) -> bool
-    ensures { result ≡ shallow bounds.now.table.now (units_of bounds.now.bursts.now) router }
+    ensures { result ≡ shallow (content bounds.now.table.now) (units_of bounds.now.bursts.now) router }
 {
     let depth = Packets::from(bounds.table.dimensions().depth);
     bounds

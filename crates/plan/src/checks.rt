@@ -1,5 +1,6 @@
 // What admission looks for in the flows of a table, in order.
 ghost use Rattle.std.specs.Prelude.{◌≡◌, MatchOption};
+ghost use Rattle.table.specs.Content.{content};
 ghost use Rattle.bounds.specs.Sums.{count};
 ghost use Rattle.bounds.specs.Bounds.{crowded};
 ghost use Rattle.plan.specs.Order.{NoneBelow, FirstNumbered};
@@ -32,7 +33,7 @@ fn fault_of(dimensions: Dimensions, flow: &Flow) -> Option<FlowFault>
 
 // The lowest flow with a fault, by its number.
 pub(crate) fn first_fault(table: &Table) -> Option<(usize, FlowFault)>
-    ensures { MatchOption result (Faultless table.now (count table.now)) (λ e. FirstFault table.now e.0 e.1) }
+    ensures { MatchOption result (Faultless (content table.now) (count (content table.now))) (λ e. FirstFault (content table.now) e.0 e.1) }
 {
     let dimensions = table.dimensions();
     table.flows().iter().enumerate().find_map(|(k, flow)| {
@@ -43,7 +44,7 @@ pub(crate) fn first_fault(table: &Table) -> Option<(usize, FlowFault)>
 
 // The lowest flow that its rivals leave too little, by its number.
 pub(crate) fn first_crowded(table: &Table) -> Option<usize>
-    ensures { MatchOption result (NoneBelow (count table.now) (crowded table.now)) (FirstNumbered (count table.now) (crowded table.now)) }
+    ensures { MatchOption result (NoneBelow (count (content table.now)) (crowded (content table.now))) (FirstNumbered (count (content table.now)) (crowded (content table.now))) }
 {
     table
         .flows()

@@ -1,5 +1,6 @@
 // A plan: a table with its least bursts and its routers' backlogs.
 ghost use Rattle.std.specs.Prelude.{◌≡◌, ◌≤◌, length};
+ghost use Rattle.table.specs.Content.{content};
 ghost use Rattle.bounds.specs.Sums.{count, units_of};
 ghost use Rattle.bounds.specs.Bounds.{side, saturated, crowded, Straight, Turning, Capped, Minimal};
 ghost use Rattle.bounds.specs.Bursts.{Ends};
@@ -20,18 +21,18 @@ pub struct Plan {
     table: Table,
     bursts: [Units; 64],
     backlogs: [Packets; 64],
-    ghost few: { count table ≤ 64 },
+    ghost few: { count (content table) ≤ 64 },
     ghost long: { (length bursts ≡ 64) × (length backlogs ≡ 64) },
-    ghost ranged: { Ranged table },
-    ghost faultless: { Faultless table (count table) },
-    ghost roomy: { Nowhere (side table) (saturated table) },
-    ghost calm: { NoneBelow (count table) (crowded table) },
-    ghost straight: { Straight table (units_of bursts) },
-    ghost turning: { Turning table (units_of bursts) },
-    ghost capped: { Capped table (units_of bursts) },
-    ghost minimal: { Minimal table (units_of bursts) },
-    ghost ends: { Ends table bursts },
-    ghost queues: { Backlogs table (units_of bursts) backlogs },
-    ghost over: { Over table backlogs },
-    ghost deep: { Deep table (units_of bursts) },
+    ghost ranged: { Ranged (content table) },
+    ghost faultless: { Faultless (content table) (count (content table)) },
+    ghost roomy: { Nowhere (side (content table)) (saturated (content table)) },
+    ghost calm: { NoneBelow (count (content table)) (crowded (content table)) },
+    ghost straight: { Straight (content table) (units_of bursts) },
+    ghost turning: { Turning (content table) (units_of bursts) },
+    ghost capped: { Capped (content table) (units_of bursts) },
+    ghost minimal: { Minimal (content table) (units_of bursts) },
+    ghost ends: { Ends (content table) bursts },
+    ghost queues: { Backlogs (content table) (units_of bursts) backlogs },
+    ghost over: { Over (content table) backlogs },
+    ghost deep: { Deep (content table) (units_of bursts) },
 }

@@ -60,11 +60,21 @@ mod tests {
         })
     }
 
+    fn count_of(plan: Plan) -> usize {
+        plan.table().flows().len()
+    }
+
+    // A plan is a plain value: one function may pass it on twice.
+    fn counts_of(plan: Plan) -> (usize, usize) {
+        (count_of(plan), count_of(plan))
+    }
+
     #[test]
     fn tells_flows_and_routers(rt: HostRuntime) -> Result<(), Fail> {
         let mut plan = Plan::empty();
         assert!(rt; plan.admit(&five()).is_ok());
         assert!(rt; tells_flow_4(&plan));
+        assert!(rt; counts_of(plan) == (5, 5));
         assert!(rt; plan.flow(0).is_none());
         assert!(rt; plan.flow(6).is_none());
         let turn = plan.router((2, 1)).ok_or("no router 2 1")?;

@@ -1,6 +1,7 @@
 // A bank: the regulators of a plan's flows in a lent slice, that of flow 1 first.
 ghost use Rattle.std.specs.Prelude.{◌≡◌, ℕ, false, ◌≢◌, map};
 ghost use Rattle.std.specs.List.{slice_get};
+ghost use Rattle.table.specs.Content.{content};
 ghost use Rattle.regulator.specs.Meaning.{covers, passed};
 ghost use Rattle.regulator.specs.Banks.{at, taken_at, tells, FirstOther};
 
@@ -50,7 +51,7 @@ fn agrees<R: Regulator>(regulator: &R, flow: &Flow, frame: Frame) -> bool
 
 // The lowest flow, by its number, whose regulator tells other numbers than the plan has.
 pub fn first_other<R: Regulator>(bank: &[R], plan: &Plan) -> Option<usize>
-    ensures { FirstOther plan.now.table (map R.Regulator.meaning bank.now) result }
+    ensures { FirstOther (content plan.now.table) (map R.Regulator.meaning bank.now) result }
 {
     let frame = plan.table().dimensions().frame;
     let flows = plan.table().flows();

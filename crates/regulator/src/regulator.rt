@@ -1,5 +1,6 @@
 // What every regulator does, said of its meaning alone.
 ghost use Rattle.std.specs.Prelude.{◌≡◌, false};
+ghost use Rattle.table.specs.Content.{content};
 ghost use Rattle.regulator.specs.Meaning.{Meaning, Lawful, Tells, covers, taken, passed};
 ghost use Rattle.regulator.specs.Making.{Made};
 
@@ -13,7 +14,7 @@ pub trait Regulator: Copy {
 
     // A full regulator for a flow of the plan, by the flow's number, which counts from 1.
     fn fresh(plan: &Plan, number: usize) -> Result<Self, Fault>
-        ensures { Made meaning plan.now.table number result };
+        ensures { Made meaning (content plan.now.table) number result };
 
     // The numbers that never change.
     fn bucket(&self) -> Bucket

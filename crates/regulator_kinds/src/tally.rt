@@ -1,5 +1,6 @@
 // A tally stands on any regulator, means what that one means, and counts the takes that were granted.
 ghost use Rattle.std.specs.Prelude.{◌≡◌, ◌+◌, min, false, IfOk, if◌then◌else◌};
+ghost use Rattle.table.specs.Content.{content};
 ghost use Rattle.regulator.specs.Meaning.{covers, taken, passed};
 ghost use Rattle.regulator.specs.Making.{Made};
 ghost use Rattle.std.proofs.Common.{rules};
@@ -29,7 +30,7 @@ impl<R: Regulator> Regulator for Tally<R> {
     ghost lawful = { Prim.search rules };
 
     fn fresh(plan: &Plan, number: usize) -> Result<Tally<R>, Fault>
-        ensures made { Made (λ t. R.Regulator.meaning t.below) plan.now.table number result }
+        ensures made { Made (λ t. R.Regulator.meaning t.below) (content plan.now.table) number result }
         ensures counted { IfOk result (λ t. t.granted ≡ 0) }
     {
         let below = R::fresh(plan, number)?;

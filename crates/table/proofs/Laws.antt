@@ -1,20 +1,27 @@
 -- Reading and writing undo each other.
-use Rattle.std.proofs.Common.{◌≡◌, ℕ, ◌≤◌, List, length, take, drop, Ok, Err, Result, sym, ap, ◌∙◌}
+use Rattle.std.proofs.Common.{◌≡◌, ℕ, List, length, take, drop, Ok, Err, Result, sym, ap, ◌∙◌}
 use Rattle.std.proofs.lemmas.List.{take_at}
 use Rattle.table.specs.declared.fault.Fault.{Fault}
-use Rattle.table.specs.Content.{Content}
-use Rattle.table.specs.Format.{encode}
+use Rattle.table.specs.declared.model.Table.{Table}
+use Rattle.table.specs.Content.{content}
 use Rattle.table.specs.Reading.{Answers}
-use Rattle.table.specs.Writing.{Wrote, ReadsBack, WritesBack}
-use Rattle.table.proofs.Unique.{unique}
+use Rattle.table.specs.Writing.{file_of, Wrote, OwnFile, OwnContent, ReadsBack, WritesBack}
+use Rattle.table.proofs.Same.{same_content}
+use Rattle.table.proofs.Unique.{unique, one_content}
 
-written : (c : Content) (n : ℕ) (before after : List ℕ) → Wrote c before after (Ok n) → take n after ≡ encode c
-written c n before after w = ap (take n) w.2 ∙ take_at (encode c) (drop (length (encode c)) before) n (sym w.0)
+pub own_content : (t : Table) → OwnContent t
+own_content t d e = one_content (content t) d e
 
-pub reads_back : (c : Content) (before after : List ℕ) (r : Result ℕ Fault) → length c.flows ≤ 64 → Wrote c before after r → ReadsBack c after r
-reads_back c before after (Ok n) few w = λ s a. unique (take n after) s (Ok c) a (few, written c n before after w)
-reads_back c before after (Err f) few w = tt
+pub own_file : (t : Table) → OwnFile t
+own_file t u e = same_content u t (one_content (content t) (content u) e)
 
-pub writes_back : (bs : List ℕ) (r : Result Content Fault) → Answers bs r → WritesBack bs r
-writes_back bs (Ok c) a = λ n before after w. written c n before after w ∙ sym a.1
+written : (t : Table) (n : ℕ) (before after : List ℕ) → Wrote t before after (Ok n) → take n after ≡ file_of t
+written t n before after w = ap (take n) w.2 ∙ take_at (file_of t) (drop (length (file_of t)) before) n (sym w.0)
+
+pub reads_back : (t : Table) (before after : List ℕ) (r : Result ℕ Fault) → Wrote t before after r → ReadsBack t after r
+reads_back t before after (Ok n) w = λ s a. unique (take n after) s (Ok t) a (written t n before after w)
+reads_back t before after (Err f) w = tt
+
+pub writes_back : (bs : List ℕ) (r : Result Table Fault) → Answers bs r → WritesBack bs r
+writes_back bs (Ok t) a = λ n before after w. written t n before after w ∙ sym a
 writes_back bs (Err f) a = tt

@@ -2,9 +2,10 @@
 use Rattle.std.proofs.Common.{◌≡◌, ℕ, ◌+◌, ◌<◌, ◌≤◌, List, ◌++◌, length, get_or, Ok, Err, Result, ap, ◌∙◌, append_assoc, arith}
 use Rattle.std.proofs.lemmas.List.{length-append, get_or_append_left}
 use Rattle.table.specs.declared.fault.Fault.{Fault}
+use Rattle.table.specs.declared.model.Table.{Table}
 use Rattle.table.specs.declared.record.Kind.{Kind}
 use Rattle.table.specs.declared.record.Kind.TheVariants.{Head, Flow, End}
-use Rattle.table.specs.Content.{Content}
+use Rattle.table.specs.Content.{content}
 use Rattle.table.specs.Format.{front}
 use Rattle.table.specs.Reading.{word_at, body_length, Headed, Whole, Broken, Wrong, Refused, Answers, Settled}
 use Rattle.table.specs.Reading.Broken.{headless, undue, missized, cut}
@@ -12,6 +13,7 @@ use Rattle.table.specs.Reading.Wrong.{broken, excess, miscount, trailing}
 use Rattle.table.specs.Reading.Refused.{at_head, behind}
 use Rattle.table.proofs.Prefixes.{length_front}
 use Rattle.table.proofs.Places.{length_encode}
+use Rattle.table.proofs.Same.{held}
 
 body_short : (k : Kind) → body_length k ≤ 8
 body_short Head = omega arith
@@ -53,6 +55,6 @@ refused_more bs d f long (behind c q few e w) =
     behind c (q ++ d) few (ap (λ l. l ++ d) e ∙ append_assoc (front c) q d)
     (wrong_more q d (omega (arith, length_front c)) (length c.flows) (length (front c)) f w)
 
-pub settled : (bs : List ℕ) (r : Result Content Fault) → Answers bs r → Settled bs r
-settled bs (Ok c) a = λ d long. absurd (omega (arith, a.0, ap length a.1, length_encode c))
+pub settled : (bs : List ℕ) (r : Result Table Fault) → Answers bs r → Settled bs r
+settled bs (Ok t) a = λ d long. absurd (omega (arith, ap length a, length_encode (content t), held t, t.few))
 settled bs (Err f) a = λ d long. refused_more bs d f long a

@@ -3,14 +3,16 @@ use Rattle.std.proofs.Common.{◌≡◌, ℕ, ◌+◌, ◌-◌, ◌*◌, ◌<◌
 use Rattle.std.specs.List.{flat_map}
 use Rattle.std.proofs.lemmas.List.{length-append, length_push, length-drop, flat_map_more, drop-drop, append-nil}
 use Rattle.table.specs.declared.flow.Flow.{Flow}
+use Rattle.table.specs.declared.model.Table.{Table}
 use Rattle.table.specs.declared.record.Kind.{Kind}
 use Rattle.table.specs.declared.record.Kind.TheVariants as kinds
 use Rattle.table.specs.declared.record.Kind.TheVariants.{Head, End}
 use Rattle.table.specs.declared.fault.Fault.{Fault}
 use Rattle.table.specs.declared.refusal.Refusal.{Refusal}
-use Rattle.table.specs.Content.{Content, pushed}
-use Rattle.table.specs.Format.{head_record, flow_record, end_record, front}
+use Rattle.table.specs.Content.{Content, content, pushed}
+use Rattle.table.specs.Format.{head_record, flow_record, end_record, front, encode}
 use Rattle.table.specs.Reading.{word_at, refusal, Whole, Wrong, Refused}
+use Rattle.table.specs.Refusals.{fault_of}
 use Rattle.table.specs.Inspecting.{Ended, Scanned, dimensions_of, flow_of}
 use Rattle.table.specs.Reading.Wrong.{excess}
 use Rattle.table.specs.Reading.Refused.{behind}
@@ -67,12 +69,12 @@ module _ (bs : List ℕ) (c : Content) (b : Begun bs c) where
             ∙ (λ i. flat_map_more flow_record (head_record c.dimensions) c.flows f i ++ tail i)));
       }
 
-  pub begun_end : (r : Result Content Refusal) → Bytes bs → Whole (start_of c) (drop (start_of c) bs) End → Ended c (start_of c) (drop (start_of c) bs) r → Scanned bs r
-  begun_end (Ok d) small w h =
+  pub begun_end : (t : Table) (r : Result Table Refusal) → content t ≡ c → Bytes bs → Whole (start_of c) (drop (start_of c) bs) End → Ended t (start_of c) (drop (start_of c) bs) r → Scanned bs r
+  begun_end t (Ok u) e small w h =
       let q = drop (start_of c) bs in
-      let last : q ≡ end_record (length c.flows) = end_split q (drop_bytes bs (start_of c) small) (start_of c) w h.2 ∙ ap end_record h.1 in
-      rw h.0 (b.few, b.split ∙ ap (λ l. front c ++ l) last)
-  begun_end (Err f) small w h = begun_wrong h
+      let last : q ≡ end_record (length c.flows) = end_split q (drop_bytes bs (start_of c) small) (start_of c) w h.2 ∙ ap end_record (h.1 ∙ ap (λ d. length d.flows) e) in
+      b.split ∙ (ap (λ l. front c ++ l) last ∙ ap encode (sym e ∙ ap content (sym h.0)))
+  begun_end t (Err f) e small w h = begun_wrong (subst (λ n. Wrong n (start_of c) (drop (start_of c) bs) (fault_of f)) (ap (λ d. length d.flows) e) h)
 
 -- what holds of what is left of bs from byte n on, or behind c, as the code has it
 

@@ -5,16 +5,18 @@ use Rattle.std.proofs.lemmas.Bool.Decides.{nat_tests as tells}
 use Rattle.table.specs.declared.fault.Fault.{Fault}
 use Rattle.table.specs.declared.flow.Dimensions.{Dimensions}
 use Rattle.table.specs.declared.flow.Flow.{Flow}
+use Rattle.table.specs.declared.model.Table.{Table}
 use Rattle.table.specs.declared.record.Kind.{Kind}
 use Rattle.table.specs.declared.record.Kind.TheVariants as kinds
 use Rattle.table.specs.declared.record.Kind.TheVariants.{Head, End}
-use Rattle.table.specs.Content.{Content}
+use Rattle.table.specs.Content.{Content, content}
 use Rattle.table.specs.Format.{head_record, flow_record, end_record, front, encode}
 use Rattle.table.specs.Reading.{word_at, refusal, due_at, body_length, Whole, Broken, Wrong, Answers}
 use Rattle.table.specs.Reading.Broken.{headless, undue, missized, cut}
 use Rattle.table.specs.Reading.Wrong.{broken, excess, miscount, trailing}
 use Rattle.table.specs.Reading.Refused.{at_head, behind}
 use Rattle.table.proofs.Prefixes.{length_front}
+use Rattle.table.proofs.Same.{held, same_content}
 
 -- one record: its kind or its fault, computed
 
@@ -120,6 +122,19 @@ flows_same m (f ∷ fs) (g ∷ gs) x y n a b l r e =
     let k = flows_same m fs gs x y (n + 1) (omega arith) (omega arith) (λ o z w. omega (arith, l o z w)) (λ o z w. omega (arith, r o z w)) h.1 in
     ((λ i. h.0 i ∷ k.0 i), k.1)
 
+-- an answer, by the content of its table
+
+told : Result Table Fault → Result Content Fault
+told (Ok t) = Ok (content t)
+told (Err f) = Err f
+
+same_told : (r s : Result Table Fault) → told r ≡ told s → r ≡ s
+unfolding told
+same_told (Ok t) (Ok u) e = ap Ok (same_content t u (cc))
+same_told (Ok t) (Err g) e = absurd (let z : ◌≡◌ {A = ℕ} 0 1 = cc in omega arith)
+same_told (Err f) (Ok u) e = absurd (let z : ◌≡◌ {A = ℕ} 0 1 = cc in omega arith)
+same_told (Err f) (Err g) e = cc
+
 -- what a table file is to reading: the records that are as they should be, and what follows them
 
 outcome : Content → Option Fault → Result Content Fault
@@ -185,8 +200,9 @@ data Kept (bs : List ℕ) (r : Result Content Fault) : Type 0 where
   faulty : (f : Fault) → r ≡ Err f → inspected 0 bs ≡ Err f → Kept bs r
   parsed : Parsed bs r → Kept bs r
 
-answered : (bs : List ℕ) (r : Result Content Fault) → Answers bs r → Kept bs r
-answered bs (Ok c) a = parsed (good_parsed bs c a.0 a.1)
+answered : (bs : List ℕ) (r : Result Table Fault) → Answers bs r → Kept bs (told r)
+unfolding told
+answered bs (Ok t) a = parsed (good_parsed bs (content t) (omega (arith, held t, t.few)) a)
 answered bs (Err f) (at_head b) = faulty f refl (broken_is 0 bs f b)
 answered bs (Err f) (behind c q few e w) = parsed (wrong_parsed bs f c q few e w)
 
@@ -196,14 +212,14 @@ kept_same bs r s (faulty f a x) (parsed o) = absurd (let h = parsed_head bs s o 
 kept_same bs r s (parsed p) (faulty g b y) = absurd (let h = parsed_head bs r p in let z : ◌≡◌ {A = ℕ} 0 1 = cc in omega arith)
 kept_same bs r s (parsed p) (parsed o) = parsed_same bs r s p o
 
-pub unique : (bs : List ℕ) (r s : Result Content Fault) → Answers bs r → Answers bs s → r ≡ s
-unique bs r s a b = kept_same bs r s (answered bs r a) (answered bs s b)
+pub unique : (bs : List ℕ) (r s : Result Table Fault) → Answers bs r → Answers bs s → r ≡ s
+unique bs r s a b = same_told r s (kept_same bs (told r) (told s) (answered bs r a) (answered bs s b))
 
 -- no two tables have one file, of however many flows
 
-pub own_file : (c d : Content) → encode d ≡ encode c → d ≡ c
+pub one_content : (c d : Content) → encode d ≡ encode c → d ≡ c
 unfolding Last
-own_file c d e =
+one_content c d e =
     let m = length d.flows + length c.flows in
     let split = λ (b : Content). append_assoc (head_record b.dimensions) (flat_map flow_record b.flows) (end_record (length b.flows)) in
     let h = head_same d.dimensions c.dimensions _ _ (sym (split d) ∙ (e ∙ split c)) in

@@ -1,15 +1,20 @@
 -- What a table holds, and what building does to it.
-use Rattle.std.specs.Prelude.{◌≡◌, ◌<◌, List, [], ◌∷◌, ◌++◌, length, Ok, Err, Result}
+use Rattle.std.specs.Prelude.{◌≡◌, ◌<◌, List, [], ◌∷◌, ◌++◌, length, take, Ok, Err, Result}
 use Rattle.table.specs.declared.flow.Flow.{Flow}
 use Rattle.table.specs.declared.flow.Dimensions.{Dimensions}
+use Rattle.table.specs.declared.model.Table.{Table}
 use Rattle.table.specs.declared.fault.Fault.{Fault}
 use Rattle.table.specs.declared.fault.Layer.TheVariants.{File}
 use Rattle.table.specs.declared.fault.Place.TheVariants as places
 
--- a table, as clauses see it
+-- a table's numbers and flows
 pub record Content : Type 0 where
   pub dimensions : Dimensions
   pub flows : List Flow
+
+-- the flows are the entries below the count
+abbrev pub content : Table → Content
+content t = record { dimensions = t.dimensions; flows = take t.count t.flows }
 
 -- c with one flow more at the end
 abbrev pub pushed : Content → Flow → Content
@@ -19,7 +24,7 @@ pushed c f = record { dimensions = c.dimensions; flows = c.flows ++ f ∷ [] }
 abbrev pub full : Fault
 full = record { number = 4; layer = File; place = places.Flow 65 }
 
--- how adding the flow f to the table c ends, which d then is
-abbrev pub Added : Content → Flow → Content → Result (Unit {0}) Fault → Type 0
-Added c f d (Ok x) = (length c.flows < 64) × (d ≡ pushed c f)
-Added c f d (Err e) = (length c.flows ≡ 64) × (e ≡ full) × (d ≡ c)
+-- how adding the flow f to the table t ends, which u then is
+abbrev pub Added : Table → Flow → Table → Result (Unit {0}) Fault → Type 0
+Added t f u (Ok x) = (length (content t).flows < 64) × (content u ≡ pushed (content t) f)
+Added t f u (Err e) = (length (content t).flows ≡ 64) × (e ≡ full) × (u ≡ t)

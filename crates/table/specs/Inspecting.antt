@@ -2,10 +2,11 @@
 use Rattle.std.specs.Prelude.{◌≡◌, ℕ, ◌<◌, List, length, Ok, Err, Result, slice_index}
 use Rattle.table.specs.declared.flow.Dimensions.{Dimensions}
 use Rattle.table.specs.declared.flow.Flow.{Flow}
+use Rattle.table.specs.declared.model.Table.{Table}
 use Rattle.table.specs.declared.record.Kind.{Kind}
 use Rattle.table.specs.declared.refusal.Refusal.{Refusal}
 use Rattle.table.specs.declared.refusal.Refusal.TheVariants.{Excess}
-use Rattle.table.specs.Content.{Content, pushed}
+use Rattle.table.specs.Content.{content, pushed}
 use Rattle.table.specs.Reading.{word_at, Headed, Whole, Broken, Wrong, Answers}
 use Rattle.table.specs.Refusals.{fault_of}
 
@@ -31,17 +32,17 @@ abbrev pub Inspected : ℕ → List ℕ → Result Kind Refusal → Type 0
 Inspected at q (Ok k) = Whole at q k
 Inspected at q (Err r) = Broken at q (fault_of r)
 
--- how adding the flow of a record ends: the table d has it, or the refusal
-abbrev pub Pushed : Content → ℕ → List ℕ → Content → Result (Unit {0}) Refusal → Type 0
-Pushed c at q d (Ok x) = (length c.flows < 64) × (d ≡ pushed c (flow_of q))
-Pushed c at q d (Err r) = (length c.flows ≡ 64) × (r ≡ Excess at)
+-- how adding the flow of a record ends: the table u has it, or the refusal
+abbrev pub Pushed : Table → ℕ → List ℕ → Table → Result (Unit {0}) Refusal → Type 0
+Pushed t at q u (Ok x) = (length (content t).flows < 64) × (content u ≡ pushed (content t) (flow_of q))
+Pushed t at q u (Err r) = (length (content t).flows ≡ 64) × (r ≡ Excess at)
 
 -- how the inspection of the end of a table's file ends: the table, or the refusal
-abbrev pub Ended : Content → ℕ → List ℕ → Result Content Refusal → Type 0
-Ended c at q (Ok d) = (d ≡ c) × (word_at q 4 ≡ length c.flows) × (length q ≡ 6)
-Ended c at q (Err r) = Wrong (length c.flows) at q (fault_of r)
+abbrev pub Ended : Table → ℕ → List ℕ → Result Table Refusal → Type 0
+Ended t at q (Ok u) = (u ≡ t) × (word_at q 4 ≡ length (content t).flows) × (length q ≡ 6)
+Ended t at q (Err r) = Wrong (length (content t).flows) at q (fault_of r)
 
 -- the same of the whole file
-abbrev pub Scanned : List ℕ → Result Content Refusal → Type 0
-Scanned bs (Ok c) = Answers bs (Ok c)
+abbrev pub Scanned : List ℕ → Result Table Refusal → Type 0
+Scanned bs (Ok t) = Answers bs (Ok t)
 Scanned bs (Err r) = Answers bs (Err (fault_of r))

@@ -1,6 +1,5 @@
 pub mod Blank
 pub mod Content
-pub mod Fields
 pub mod Format
 pub mod Kinds
 pub mod Reading

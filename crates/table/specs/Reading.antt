@@ -1,11 +1,12 @@
 -- Reading a table file: which bytes are a table's, and by which fault all others are refused.
 use Rattle.std.specs.Prelude.{◌≡◌, ℕ, ◌+◌, ◌*◌, ◌<◌, ◌≤◌, Bool, cond, List, ◌++◌, length, Some, None, Ok, Err, Option, Result, ◌==◌, ◌≢◌, nat_lt, slice_index}
+use Rattle.table.specs.declared.model.Table.{Table}
 use Rattle.table.specs.declared.fault.Fault.{Fault}
 use Rattle.table.specs.declared.fault.Layer.TheVariants.{File}
 use Rattle.table.specs.declared.fault.Place.TheVariants.{Byte}
 use Rattle.table.specs.declared.record.Kind.{Kind}
 use Rattle.table.specs.declared.record.Kind.TheVariants.{Head, Flow, End}
-use Rattle.table.specs.Content.{Content}
+use Rattle.table.specs.Content.{Content, content}
 use Rattle.table.specs.Format.{front, encode}
 
 -- refused by number n at byte `at`
@@ -63,14 +64,14 @@ pub data Refused (bs : List ℕ) (f : Fault) : Type 0 where
   behind : (c : Content) (q : List ℕ) → length c.flows ≤ 64 → bs ≡ front c ++ q → Wrong (length c.flows) (length (front c)) q f → Refused bs f
 
 -- the answer to the bytes bs: the table whose file they are, or the fault of the first record at fault
-abbrev pub Answers : List ℕ → Result Content Fault → Type 0
-Answers bs (Ok c) = (length c.flows ≤ 64) × (bs ≡ encode c)
+abbrev pub Answers : List ℕ → Result Table Fault → Type 0
+Answers bs (Ok t) = bs ≡ encode (content t)
 Answers bs (Err f) = Refused bs f
 
 -- r is the only right answer, if it is one
-abbrev pub Alone : List ℕ → Result Content Fault → Type 0
-Alone bs r = (s : Result Content Fault) → Answers bs s → s ≡ r
+abbrev pub Alone : List ℕ → Result Table Fault → Type 0
+Alone bs r = (s : Result Table Fault) → Answers bs s → s ≡ r
 
 -- 1024 bytes settle the answer, whatever follows them
-abbrev pub Settled : List ℕ → Result Content Fault → Type 0
+abbrev pub Settled : List ℕ → Result Table Fault → Type 0
 Settled bs r = (more : List ℕ) → 1024 ≤ length bs → Answers (bs ++ more) r

@@ -1,9 +1,10 @@
 -- Writing a table file to the front of a place, and what that says of reading.
 use Rattle.std.specs.Prelude.{◌≡◌, ℕ, ◌+◌, ◌<◌, ◌≤◌, List, ◌++◌, length, take, drop, Ok, Err, Result}
+use Rattle.table.specs.declared.model.Table.{Table}
 use Rattle.table.specs.declared.fault.Fault.{Fault}
 use Rattle.table.specs.declared.fault.Layer.TheVariants.{File}
 use Rattle.table.specs.declared.fault.Place.TheVariants.{Nowhere}
-use Rattle.table.specs.Content.{Content}
+use Rattle.table.specs.Content.{Content, content}
 use Rattle.table.specs.Format.{encode}
 use Rattle.table.specs.Reading.{Answers}
 
@@ -15,24 +16,31 @@ put_at at s d = take at d ++ (s ++ drop (at + length s) d)
 abbrev pub over : List ℕ → List ℕ → List ℕ
 over s d = s ++ drop (length s) d
 
+abbrev pub file_of : Table → List ℕ
+file_of t = encode (content t)
+
 -- the place is too short for the file
 abbrev pub short : Fault
 short = record { number = 7; layer = File; place = Nowhere }
 
-abbrev pub Wrote : Content → List ℕ → List ℕ → Result ℕ Fault → Type 0
-Wrote c before after (Ok n) = (n ≡ length (encode c)) × (n ≤ length before) × (after ≡ over (encode c) before)
-Wrote c before after (Err f) = (length before < length (encode c)) × (f ≡ short) × (after ≡ before)
+abbrev pub Wrote : Table → List ℕ → List ℕ → Result ℕ Fault → Type 0
+Wrote t before after (Ok n) = (n ≡ length (file_of t)) × (n ≤ length before) × (after ≡ over (file_of t) before)
+Wrote t before after (Err f) = (length before < length (file_of t)) × (f ≡ short) × (after ≡ before)
 
 -- no other table has this table's file
-abbrev pub OwnFile : Content → Type 0
-OwnFile c = (d : Content) → encode d ≡ encode c → d ≡ c
+abbrev pub OwnFile : Table → Type 0
+OwnFile t = (u : Table) → file_of u ≡ file_of t → u ≡ t
+
+-- and no other dimensions and flows have it, however many flows
+abbrev pub OwnContent : Table → Type 0
+OwnContent t = (d : Content) → encode d ≡ file_of t → d ≡ content t
 
 -- reading what was written gives the table back
-abbrev pub ReadsBack : Content → List ℕ → Result ℕ Fault → Type 0
-ReadsBack c after (Ok n) = (s : Result Content Fault) → Answers (take n after) s → s ≡ Ok c
-ReadsBack c after (Err f) = Unit {0}
+abbrev pub ReadsBack : Table → List ℕ → Result ℕ Fault → Type 0
+ReadsBack t after (Ok n) = (s : Result Table Fault) → Answers (take n after) s → s ≡ Ok t
+ReadsBack t after (Err f) = Unit {0}
 
 -- writing what was read gives the bytes back
-abbrev pub WritesBack : List ℕ → Result Content Fault → Type 0
-WritesBack bs (Ok c) = (n : ℕ) (before after : List ℕ) → Wrote c before after (Ok n) → take n after ≡ bs
+abbrev pub WritesBack : List ℕ → Result Table Fault → Type 0
+WritesBack bs (Ok t) = (n : ℕ) (before after : List ℕ) → Wrote t before after (Ok n) → take n after ≡ bs
 WritesBack bs (Err f) = Unit {0}

@@ -1,8 +1,9 @@
 // Writing a table file.
 ghost use Rattle.std.specs.Prelude.{◌≡◌, ◌+◌, ◌*◌, ◌≤◌, length};
 ghost use Rattle.std.specs.List.{flat_map};
-ghost use Rattle.table.specs.Format.{head_record, flow_record, end_record, front, encode};
-ghost use Rattle.table.specs.Writing.{put_at, Wrote, OwnFile, ReadsBack};
+ghost use Rattle.table.specs.Content.{content};
+ghost use Rattle.table.specs.Format.{head_record, flow_record, end_record, front};
+ghost use Rattle.table.specs.Writing.{put_at, file_of, Wrote, OwnFile, OwnContent, ReadsBack};
 
 use crate::fault::Fault;
 use crate::flow::{Dimensions, Flow};
@@ -74,9 +75,8 @@ fn put_flows(place: &mut [u8], flows: &[Flow])
 
 impl Table {
     // The byte of the file at which the end record stands, behind the head and the flows.
-    #[tactic(auto, using(crate::proofs::Prefixes::length_front))]
     pub(crate) fn end(&self) -> usize
-        ensures place { result ≡ length (front self.now) }
+        ensures place { result ≡ length (front (content self.now)) }
         ensures small { result ≤ 776 }
     {
         8 + 12 * self.flows().len()
@@ -85,18 +85,19 @@ impl Table {
     // How many bytes the table's file has.
     #[tactic(auto, using(crate::proofs::Places::length_encode, crate::proofs::Prefixes::length_front))]
     pub fn file_length(&self) -> usize
-        ensures length { result ≡ length (encode self.now) }
+        ensures length { result ≡ length (file_of self.now) }
         ensures small { result ≤ 782 }
     {
         self.end() + 6
     }
 
     // Writes the table's file to the front of the place, and answers its length.
-    #[tactic(auto, using(crate::proofs::Places::length_encode, crate::proofs::Unique::own_file))]
+    #[tactic(auto, using(crate::proofs::Places::length_encode, crate::proofs::Laws::own_file, crate::proofs::Laws::own_content))]
     pub fn write(&self, place: &mut [u8]) -> Result<usize, Fault>
         ensures wrote { Wrote self.now place.old place.new result }
-        ensures few { length self.now.flows ≤ 64 }
+        ensures few { length (content self.now).flows ≤ 64 }
         ensures own { OwnFile self.now }
+        ensures content { OwnContent self.now }
         ensures back { ReadsBack self.now place.new result }
     {
         let flows = self.flows();

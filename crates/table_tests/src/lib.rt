@@ -2,7 +2,8 @@
 
 #![tactic(auto)]
 
-ghost use Rattle.std.specs.Prelude.{◌≡◌, Decides, not};
+ghost use Rattle.std.specs.Prelude.{◌≡◌, ◌≤◌, Decides, length, not};
+ghost use Rattle.table.specs.Content.{content};
 ghost use Rattle.table.specs.Equal.{same_flow};
 
 #[cfg(test)]
@@ -74,6 +75,13 @@ mod tests {
         assert!(rt; Packets::from(Depth(8)).0 == 8);
     }
 
+    // The most flows that a table has; a reference to it tells so with no call.
+    fn most(table: &Table) -> usize
+        ensures { length (content table.now).flows ≤ result }
+    {
+        64
+    }
+
     #[test]
     fn a_65th_flow_is_refused(rt: HostRuntime) -> Result<(), Fail> {
         let mut table = Table::new(DIMENSIONS);
@@ -90,6 +98,7 @@ mod tests {
                 }
         );
         assert!(rt; table.flows().len() == 64);
+        assert!(rt; table.flows().len() == most(&table));
         Ok(())
     }
 

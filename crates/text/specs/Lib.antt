@@ -1,1 +1,2 @@
 pub mod Clipped
+pub mod Said

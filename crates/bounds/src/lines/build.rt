@@ -1,6 +1,7 @@
 // Lines from a table.
 ghost use Rattle.std.specs.Prelude.{◌≡◌, ℕ, ◌+◌, ◌*◌, ◌<◌, false, length, slice_index_or};
 ghost use Rattle.table.specs.Blank.{blank};
+ghost use Rattle.table.specs.Content.{content};
 ghost use Rattle.torus.specs.Paths as path;
 ghost use Rattle.bounds.specs.Sums.{up, count, over};
 ghost use Rattle.bounds.specs.Bounds.{is_north, is_beside, slack as slack_of, north_bursts, room as room_of};
@@ -24,7 +25,7 @@ fn is_northern(flows: &[Flow], torus: Torus, k: usize, router: (u8, u8)) -> bool
 // Which flows come from the north.
 fn northern(table: &Table, router: (u8, u8)) -> [bool; 64]
     ensures long { length result ≡ 64 }
-    ensures each { (k : ℕ) → k < count table.now → slice_index_or result k false ≡ is_north table.now router k }
+    ensures each { (k : ℕ) → k < count (content table.now) → slice_index_or result k false ≡ is_north (content table.now) router k }
 {
     let torus = Torus::from(table.dimensions());
     let flows = table.flows();
@@ -33,7 +34,7 @@ fn northern(table: &Table, router: (u8, u8)) -> [bool; 64]
 
 // The turn of flow `k`, which brings `rate` in a step, at the router.
 fn turn_at(table: &Table, k: usize, rate: Rate, router: (u8, u8)) -> Turn
-    ensures { (x : ℕ → ℕ) → asked (count table.now) x result ≡ up (rate.0 * (north_bursts table.now x router + over table.now (is_beside table.now k router) (slack_of table.now))) (room_of table.now router) }
+    ensures { (x : ℕ → ℕ) → asked (count (content table.now)) x result ≡ up (rate.0 * (north_bursts (content table.now) x router + over (content table.now) (is_beside (content table.now) k router) (slack_of (content table.now)))) (room_of (content table.now) router) }
 {
     Turn {
         rate,
@@ -51,7 +52,7 @@ const NO_LINE: Line = Line {
 
 // The line of flow `k`, counted from 0.
 fn line_of(table: &Table, k: usize) -> Line
-    ensures { (x : ℕ → ℕ) → line_of (count table.now) x result ≡ least_burst table.now x k }
+    ensures { (x : ℕ → ℕ) → line_of (count (content table.now)) x result ≡ least_burst (content table.now) x k }
 {
     let flow = flow_at(table, k);
     Line {
@@ -63,8 +64,8 @@ fn line_of(table: &Table, k: usize) -> Line
 // The lines of a table's flows.
 // (put in place: `array::from_fn` would make all 64 lines, whatever the count)
 pub fn lines_of(table: &Table) -> Lines
-    ensures count { result.count ≡ count table.now }
-    ensures each { (i : ℕ) → i < count table.now → (x : ℕ → ℕ) → line_at result x i ≡ least_burst table.now x i }
+    ensures count { result.count ≡ count (content table.now) }
+    ensures each { (i : ℕ) → i < count (content table.now) → (x : ℕ → ℕ) → line_at result x i ≡ least_burst (content table.now) x i }
 {
     let mut lines = [NO_LINE; 64];
     let count = table.flows().len();

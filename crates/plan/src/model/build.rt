@@ -1,5 +1,6 @@
 // Making plans.
 ghost use Rattle.std.specs.Prelude.{◌≡◌, Ok};
+ghost use Rattle.table.specs.Content.{content};
 ghost use Rattle.bounds.specs.Sums.{units_of};
 ghost use Rattle.bounds.specs.Bounds.{side};
 ghost use Rattle.bounds.specs.Bursts.{Bounded};
@@ -20,13 +21,11 @@ use table::{Dimensions, Fault, Table};
 
 // The plan of a table that was checked, with its least bursts.
 fn complete(table: &Table, bursts: [Units; 64]) -> Plan
-    requires sound { Sound table.now }
-    requires least { Bounded table.now (Ok bursts) }
-    requires deep { Nowhere (side table.now) (shallow table.now (units_of bursts)) }
+    requires sound { Sound (content table.now) }
+    requires least { Bounded (content table.now) (Ok bursts) }
+    requires deep { Nowhere (side (content table.now)) (shallow (content table.now) (units_of bursts)) }
     ensures { result.table ≡ table.now }
 {
-    // (asked for its clause `few`, that a table has at most 64 flows)
-    let _flows = table.flows();
     Plan {
         table: *table,
         bursts,
@@ -39,7 +38,7 @@ fn complete(table: &Table, bursts: [Units; 64]) -> Plan
 
 // The plan of a table, or the first reason against it.
 fn plan_of(table: &Table) -> Result<Plan, Refusal>
-    ensures { Admits table.now result }
+    ensures { Admits (content table.now) result }
 {
     check(table)?;
     let bursts = least_bursts(table).map_err(|_| Refusal::Unbounded)?;
@@ -55,7 +54,7 @@ fn plan_of(table: &Table) -> Result<Plan, Refusal>
 
 // The table of a place for a plan as it starts.
 fn no_flows() -> Table
-    ensures { result ≡ empty_table }
+    ensures { content result ≡ empty_table }
 {
     Table::new(Dimensions {
         side: 2,
@@ -67,15 +66,15 @@ fn no_flows() -> Table
 impl Plan {
     // What a place for a plan starts as: no flows on the smallest torus.
     pub fn empty() -> Plan
-        ensures { result.table ≡ empty_table }
+        ensures { content result.table ≡ empty_table }
     {
         complete(&no_flows(), [Units(0); 64])
     }
 
     // Puts the table's plan in this place; a refusal leaves it as it was.
     pub fn admit(&mut self, table: &Table) -> Result<(), Fault>
-        ensures answer { Admitted table.now self.old self.new result }
-        ensures alone { Alone table.now self.new result }
+        ensures answer { Admitted (content table.now) self.old self.new result }
+        ensures alone { Alone (content table.now) self.new result }
     {
         *self = plan_of(table)?;
         Ok(())

@@ -1,5 +1,6 @@
 // What a plan tells.
 ghost use Rattle.std.specs.Prelude.{◌≡◌};
+ghost use Rattle.table.specs.Content.{content};
 ghost use Rattle.bounds.specs.Sums.{units_of};
 ghost use Rattle.plan.specs.Told.{flow_told, FlowSmall, router_told, RouterSmall};
 
@@ -13,7 +14,7 @@ use torus::Torus;
 impl Plan {
     // The bounds of a flow by its number, which counts from 1.
     pub fn flow(&self, number: usize) -> Option<FlowBounds>
-        ensures value { result ≡ flow_told self.now.table (units_of self.now.bursts) number }
+        ensures value { result ≡ flow_told (content self.now.table) (units_of self.now.bursts) number }
         ensures small { FlowSmall result }
     {
         let k = number.checked_sub(1)?;
@@ -33,7 +34,7 @@ impl Plan {
 
     // The bounds of a router's queue.
     pub fn router(&self, router: (u8, u8)) -> Option<RouterBounds>
-        ensures value { result ≡ router_told self.now.table (units_of self.now.bursts) router }
+        ensures value { result ≡ router_told (content self.now.table) (units_of self.now.bursts) router }
         ensures small { RouterSmall result }
     {
         let k = Torus::from(self.table.dimensions()).index_of(router)?;

@@ -1,5 +1,6 @@
 // From a flow of a plan to its bucket.
 ghost use Rattle.std.specs.Prelude.{◌≡◌, ◌*◌};
+ghost use Rattle.table.specs.Content.{content};
 ghost use Rattle.regulator.specs.Making.{Found, Numbered};
 
 use super::Bucket;
@@ -19,7 +20,7 @@ fn numbered(flows: &[Flow], number: usize) -> Option<Flow>
 impl Bucket {
     // The bucket of a flow by its number, which counts from 1.
     pub fn of_flow(plan: &Plan, number: usize) -> Result<Bucket, NoFlow>
-        ensures { Found plan.now.table number result }
+        ensures { Found (content plan.now.table) number result }
     {
         let flow = numbered(plan.table().flows(), number).ok_or(NoFlow(number))?;
         Ok(Bucket {

@@ -1,6 +1,6 @@
 // Building a table, and what it tells.
 ghost use Rattle.std.specs.Prelude.{◌≡◌, ◌≤◌, [], length};
-ghost use Rattle.table.specs.Content.{Added};
+ghost use Rattle.table.specs.Content.{content, Added};
 
 use super::Table;
 use crate::fault::Fault;
@@ -10,7 +10,7 @@ use crate::refusal::Refusal;
 impl Table {
     // A table without flows.
     pub fn new(dimensions: Dimensions) -> Table
-        ensures { result ≡ record { dimensions = dimensions; flows = [] } }
+        ensures { content result ≡ record { dimensions = dimensions; flows = [] } }
     {
         Table {
             dimensions,
@@ -20,16 +20,15 @@ impl Table {
     }
 
     pub fn dimensions(&self) -> Dimensions
-        ensures value { result ≡ self.now.dimensions }
-        ensures few { length self.now.flows ≤ 64 }
+        ensures { result ≡ (content self.now).dimensions }
     {
         self.dimensions
     }
 
     // The flows in the order in which they were added: flow 1 first.
     pub fn flows(&self) -> &[Flow]
-        ensures value { result.now ≡ self.now.flows }
-        ensures few { length self.now.flows ≤ 64 }
+        ensures value { result.now ≡ (content self.now).flows }
+        ensures few { length (content self.now).flows ≤ 64 }
     {
         &self.flows[..self.count]
     }

@@ -1,6 +1,7 @@
 use Rattle.std.proofs.Common.{◌≡◌, ◌<◌, cond, length, get_or, sym, ap, ◌∙◌, arith}
 use Rattle.std.proofs.lemmas.Bool.{cond-true, cond-false}
 use Rattle.table.specs.Blank.{blank}
+use Rattle.table.specs.Content.{content}
 use Rattle.bounds.specs.Sums.{count, flow}
 use Rattle.bounds.specs.Sigma.{sum_none, sum_more}
 use Rattle.bounds.proofs.sums.total.Goals as goal
@@ -11,7 +12,7 @@ loop-k-init g c = (λ p w a b. sym (sum_none _), omega arith, λ h. omega arith)
 
 pub loop-k-preserved : goal.loop-k-preserved
 loop-k-preserved g c =
-    let t = c.args.table.now in
+    let t = content c.args.table.now in
     let k = c.loop-k.k in
     let within : k < count t = omega (arith, ap length c.flows-flow-items.ensures.value) in
     let here : get_or c.flows-flow-items.result.now k blank ≡ flow t k = ap (λ fs. get_or fs k blank) c.flows-flow-items.ensures.value in

@@ -3,7 +3,7 @@ use Rattle.plan.proofs.routers.first_router.Goals as goal
 
 pub returns-then-test : goal.returns-then-test
 returns-then-test g c = λ holds tells.
-    let s = ap (λ d. d.side) c.dimensions-side.ensures.value in
+    let s = ap (λ d. d.side) c.dimensions-side.ensures in
     record {
       column = omega (arith, s);
       row = omega (arith, s);
@@ -14,5 +14,5 @@ returns-then-test g c = λ holds tells.
 
 pub returns : goal.returns
 returns g c = λ holds tells r column row.
-    let s = ap (λ d. d.side) c.dimensions-side.ensures.value in
+    let s = ap (λ d. d.side) c.dimensions-side.ensures in
     tells r _ column row (c.loop-y.invariant r.1 (omega (arith, s)) r.0 (omega (arith, s)))

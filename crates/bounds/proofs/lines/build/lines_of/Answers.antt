@@ -1,5 +1,6 @@
 use Rattle.std.proofs.Common.{◌≡◌, ℕ, ◌<◌, ◌≢◌, List, ◌++◌, map, length, get_or, ap, ◌∙◌, arith, below_more}
 use Rattle.std.proofs.lemmas.List.{length-map, length-set, length-take-le, map-append, get_or_append_left, map-set, get_or-set_same, get_or-set_other}
+use Rattle.table.specs.Content.{content}
 use Rattle.bounds.specs.declared.lines.Line.{Line}
 use Rattle.bounds.specs.Sums.{count}
 use Rattle.bounds.specs.Lines.{line_of}
@@ -15,7 +16,7 @@ loop-k-preserved c =
     let k = c.loop-k.k in
     let ls = c.loop-k.line-items in
     let l = c.line_of.result in
-    let f = line_of (count c.args.table.now) in (
+    let f = line_of (count (content c.args.table.now)) in (
       length-set ls k l ∙ c.loop-k.invariant.0,
       below_more _ _
           (λ i h x. let ne : i ≢ k = omega arith in

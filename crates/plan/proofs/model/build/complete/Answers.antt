@@ -1,10 +1,12 @@
+use Rattle.std.proofs.Common.{arith, length-take}
+use Rattle.table.specs.Content.{content}
 use Rattle.bounds.specs.Sums.{units_of}
 use Rattle.plan.proofs.Filled.{deep_from, backlogs_from, over_from}
 use Rattle.plan.proofs.model.build.complete.Goals as goal
 
 pub invariant_of-result : goal.invariant_of-result
 invariant_of-result c =
-    let t = c.args.table.now in
+    let t = content c.args.table.now in
     let x = units_of c.args.bursts in
     let sound = c.requires.sound in
     let whole = sound.roomy.whole in
@@ -13,7 +15,7 @@ invariant_of-result c =
     let ps = c.backlogs.result in
     let ensures = c.backlogs.ensures in
     record {
-      few = c.flows-flows.ensures.few;
+      few = simp length-take (omega (arith, c.args.table.now.few));
       long = (c.requires.least.0, ensures.long);
       ranged = whole.ranged;
       faultless = whole.flows;
