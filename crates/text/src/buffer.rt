@@ -4,8 +4,7 @@ ghost use Rattle.std.specs.Prelude.{◌≡◌, ◌≤◌, length};
 mod build;
 
 // (an array and a length, and no `ArrayVec`: behind a vector there are no bytes that a wrong body could show;
-// no model, since a reference to one tells no bound, and one whose value has the bound is not found to be
-// equal where the bytes are)
+// no model, since of one whose value is the list of the bytes a reference tells no bound)
 #[derive(Drop)]
 pub struct Text {
     bytes: [u8; 8192],
